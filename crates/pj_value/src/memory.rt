@@ -1,0 +1,57 @@
+//! The refusals of this crate. Want of memory has a type of its own, since every crate answers it.
+ghost use Rattle.std.specs.Prelude.{◌≡◌};
+ghost use Rattle.pj_value.specs.declared.memory.PushFault.TheVariants as push_faults;
+
+use std::alloc::{AllocError, AllocFailed};
+use thiserror::Error;
+
+/// There was no memory for the call. It may come from any call that allocates, and says nothing more.
+#[derive(Clone, Copy, Debug, PartialEq, Eq, Error)]
+#[error("no memory")]
+pub struct NoMemory;
+
+impl From<AllocError> for NoMemory {
+    fn from(_e: AllocError) -> NoMemory {
+        NoMemory
+    }
+}
+
+impl<T: Drop> From<AllocFailed<T>> for NoMemory {
+    fn from(_e: AllocFailed<T>) -> NoMemory {
+        NoMemory
+    }
+}
+
+/// Why a value or a row was not appended. What it was to be appended to is as before.
+#[derive(Clone, Copy, Debug, PartialEq, Eq, Error)]
+pub enum PushFault {
+    /// The kinds of what was handed in are not those that stand there.
+    #[error("wrong shape")]
+    WrongShape,
+    #[error("no memory")]
+    NoMemory,
+}
+
+impl From<NoMemory> for PushFault {
+    ghost from_gives = { λ _ e. e ≡ push_faults.NoMemory };
+
+    fn from(_e: NoMemory) -> PushFault {
+        PushFault::NoMemory
+    }
+}
+
+impl From<AllocError> for PushFault {
+    ghost from_gives = { λ _ e. e ≡ push_faults.NoMemory };
+
+    fn from(_e: AllocError) -> PushFault {
+        PushFault::NoMemory
+    }
+}
+
+impl<T: Drop> From<AllocFailed<T>> for PushFault {
+    ghost from_gives = { λ _ e. e ≡ push_faults.NoMemory };
+
+    fn from(_e: AllocFailed<T>) -> PushFault {
+        PushFault::NoMemory
+    }
+}
