@@ -1,3 +1,5 @@
 pub mod Values
+pub mod Columns
 pub mod Rows
 pub mod Escaping
+pub mod Layout

@@ -1,5 +1,4 @@
 -- Values and their kinds (docs/MODEL.md, "Values").
-use Rattle.std.specs.Prelude.{ℕ, List}
 use Rattle.pj_value.specs.declared.value.Kind.{Kind}
 use Rattle.pj_value.specs.declared.value.Kind.TheVariants as kinds
 use Rattle.pj_value.specs.declared.value.Value.{Value}

@@ -1,13 +1,22 @@
 //! Values, texts and rows: what a table holds, and the lists that all crates share.
 #![tactic(auto)]
 
+mod column;
+mod columns;
+mod escaping;
 mod list;
 mod memory;
+mod rows;
 mod text;
 mod value;
 
-
+pub use column::Column;
+pub use escaping::escape;
 pub use list::List;
 pub use memory::{NoMemory, PushFault};
+pub use rows::Rows;
 pub use text::Text;
 pub use value::{AggKind, Cell, Kind, Value};
+
+#[cfg(test)]
+mod tests;

@@ -28,6 +28,7 @@ pub enum PushFault {
     /// The kinds of what was handed in are not those that stand there.
     #[error("wrong shape")]
     WrongShape,
+    /// There was no memory for it.
     #[error("no memory")]
     NoMemory,
 }

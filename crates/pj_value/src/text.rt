@@ -35,6 +35,13 @@ impl Text {
         Text { bytes }
     }
 
+    /// The same text, in memory of its own.
+    pub fn duplicate(&self, alloc: Global) -> Result<Text, NoMemory>
+        ensures { IfOk result (λ t. t ≡ self.now) }
+    {
+        Text::new(alloc, self.as_slice())
+    }
+
     /// The bytes, lent. Takes no memory.
     pub fn as_slice(&self) -> &[u8]
         ensures { result.now ≡ self.now }

@@ -1,10 +1,17 @@
 //! A value of a table, its kind, and a value that is lent.
-use crate::text::Text;
+ghost use Rattle.std.specs.Prelude.{◌≡◌, IfOk};
+ghost use Rattle.pj_value.specs.Values.{kind_of, value_of};
 
-/// The kind of a column: `UInt64` or `String`.
+use crate::memory::NoMemory;
+use crate::text::Text;
+use std::alloc::Global;
+
+/// The kind of a column.
 #[derive(Clone, Copy, Debug, PartialEq, Eq)]
 pub enum Kind {
+    /// `UInt64`.
     Num,
+    /// `String`.
     Text,
 }
 
@@ -13,6 +20,7 @@ pub enum Kind {
 pub enum Value {
     /// A number of 64 bits.
     Num(u64),
+    /// Bytes, in no encoding.
     Text(Text),
 }
 
@@ -21,6 +29,7 @@ pub enum Value {
 pub enum Cell<'a> {
     /// A number of 64 bits.
     Num(u64),
+    /// Bytes, in no encoding.
     Text(&'a Text),
 }
 
@@ -29,4 +38,38 @@ pub enum Cell<'a> {
 pub enum AggKind {
     /// `count()`: the number of rows, modulo 2^64.
     Count,
+}
+
+impl Value {
+    /// The kind of the columns that take this value.
+    pub fn kind(&self) -> Kind
+        ensures { result ≡ kind_of self.now }
+    {
+        match self {
+            Value::Num(_) => Kind::Num,
+            Value::Text(_) => Kind::Text,
+        }
+    }
+
+    /// The same value, which owns its text. A number takes no memory.
+    pub fn duplicate(&self, alloc: Global) -> Result<Value, NoMemory>
+        ensures { IfOk result (λ v. v ≡ self.now) }
+    {
+        match self {
+            Value::Num(number) => Ok(Value::Num(*number)),
+            Value::Text(text) => Ok(Value::Text(text.duplicate(alloc)?)),
+        }
+    }
+}
+
+impl<'a> Cell<'a> {
+    /// The value that is lent, with a copy of its text. A number takes no memory.
+    pub fn to_value(self, alloc: Global) -> Result<Value, NoMemory>
+        ensures { IfOk result (λ v. v ≡ value_of self.entry) }
+    {
+        match self {
+            Cell::Num(number) => Ok(Value::Num(number)),
+            Cell::Text(text) => Ok(Value::Text(text.duplicate(alloc)?)),
+        }
+    }
 }

@@ -1,0 +1,6 @@
+-- A write that failed gave nothing.
+use Rattle.std.specs.Io.KnownBytes.{Keeps}
+use Rattle.pj_io.proofs.edge.write_through.Given as goal
+
+abbrev pub invariant-turns : goal.invariant-turns
+invariant-turns g l = Keeps (g.W.Write.contents l.initial.writer) (g.W.Write.contents l.writer)

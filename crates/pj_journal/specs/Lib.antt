@@ -1,0 +1,4 @@
+pub mod Log
+pub mod History
+pub use Rattle.pj_value.specs.Values
+pub use Rattle.pj_value.specs.Rows

@@ -1,0 +1,34 @@
+//! An entry of the history: who did what, and for which line of the script.
+use crate::table::Table;
+use pj_value::Rows;
+
+/// Who made an entry.
+#[derive(Clone, Copy, Debug, PartialEq, Eq)]
+pub enum Actor {
+    /// A session, by the number of its name in the script.
+    Session(u32),
+}
+
+/// What an entry did. Tables are numbered from 0 in the order in which they were created.
+#[derive(Debug, Drop)]
+pub enum What {
+    /// A table was created.
+    Created(Table),
+    /// A statement was refused.
+    Refused,
+    /// A SELECT looked at the table.
+    Looked { table: u32 },
+    /// An INSERT began.
+    Begun { table: u32 },
+    /// An INSERT committed its rows as the block of this number.
+    Inserted { table: u32, block: u64, rows: Rows },
+}
+
+/// One entry: one move of an actor.
+#[derive(Debug, Drop)]
+pub struct Entry {
+    pub actor: Actor,
+    /// The line of the statement that the move belongs to.
+    pub line: u32,
+    pub what: What,
+}

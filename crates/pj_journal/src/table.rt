@@ -1,0 +1,59 @@
+//! A table as it is defined.
+ghost use Rattle.std.specs.Prelude.{◌≡◌, IfOk};
+
+use pj_value::{Kind, List, NoMemory, Text};
+use std::alloc::Global;
+
+/// A column: its name, and the kind of its values.
+#[derive(Debug, Drop)]
+pub struct ColumnDef {
+    pub name: Text,
+    pub kind: Kind,
+}
+
+impl ColumnDef {
+    /// An equal column. Its name is copied.
+    pub fn duplicate(&self, alloc: Global) -> Result<ColumnDef, NoMemory>
+        ensures { IfOk result (λ column. column ≡ self.now) }
+    {
+        let name = Text::new(alloc, self.name.as_slice())?;
+        Ok(ColumnDef {
+            name,
+            kind: self.kind,
+        })
+    }
+}
+
+/// A table: its name, its columns, and the places of its key's columns among them, in the order of the key.
+#[derive(Debug, Drop)]
+pub struct Table {
+    pub name: Text,
+    pub columns: List<ColumnDef>,
+    pub key: List<usize>,
+}
+
+impl Table {
+    /// An equal table. Names, columns and key are copied.
+    pub fn duplicate(&self, alloc: Global) -> Result<Table, NoMemory>
+        ensures { IfOk result (λ table. table ≡ self.now) }
+    {
+        let name = Text::new(alloc, self.name.as_slice())?;
+        let columns = columns_of(alloc, self.columns.as_slice())?;
+        let key = Vec::from_slice(alloc, self.key.as_slice())?;
+        Ok(Table {
+            name,
+            columns,
+            key: List::from_vec(key),
+        })
+    }
+}
+
+fn columns_of(alloc: Global, columns: &[ColumnDef]) -> Result<List<ColumnDef>, NoMemory>
+    ensures { IfOk result (λ copy. copy ≡ columns.now) }
+{
+    let mut copy = Vec::with_capacity(alloc, columns.len())?;
+    'columns: for column in columns {
+        copy.push(column.duplicate(alloc)?)?;
+    }
+    Ok(List::from_vec(copy))
+}

@@ -1,0 +1,7 @@
+mod Histories
+mod LegalLemmas
+mod LegalNames
+mod Lines
+mod RunLemmas
+mod Tables
+mod TextLaws

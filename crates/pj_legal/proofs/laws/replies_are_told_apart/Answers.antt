@@ -1,0 +1,5 @@
+use Rattle.pj_legal.proofs.TextLaws.{reply_text-same}
+use Rattle.pj_legal.proofs.laws.replies_are_told_apart.Goals as goal
+
+pub returns : goal.returns
+returns c = reply_text-same

@@ -1,0 +1,16 @@
+-- Why a statement doesn't bind, and the place of a table.
+use Rattle.std.specs.Prelude.{ℕ, List}
+use Rattle.pj_parse.specs.declared.types.Statement.{Statement}
+use Rattle.pj_journal.specs.declared.table.Table.{Table}
+use Rattle.pj_legal.specs.declared.binding.BindFault.{BindFault}
+use Rattle.pj_legal.specs.declared.binding.BindFault.TheVariants as faults
+use Rattle.pj_legal.specs.Binding.{IsRefusal, IsTableAt}
+
+-- the statement is refused so, or there was no memory
+abbrev pub IsBindFault : List Table → Statement → BindFault → Type 0
+IsBindFault tables statement (faults.Refused refusal) = IsRefusal tables statement refusal
+IsBindFault tables statement faults.NoMemory = Unit {0}
+
+-- a table of the name has this number
+abbrev pub IsAt : List Table → List ℕ → ℕ → Type 0
+IsAt tables name place = (table : Table) × IsTableAt tables name place table

@@ -1,0 +1,97 @@
+-- Laws over the definitions of this crate, each shown by a function of its own (src/laws.rt).
+use Rattle.std.specs.Prelude.{◌≡◌, ℕ, ◌≤◌, List, [], ◌∷◌, ◌++◌, length, take, Some, slice_get, ◌<◌, ◌^◌, Contains}
+use Rattle.std.specs.Fmt.{decimal}
+use Rattle.pj_parse.specs.declared.types.Script.{Script}
+use Rattle.pj_parse.specs.declared.types.Statement.{Statement}
+use Rattle.pj_parse.specs.Lines.{IsName}
+use Rattle.pj_journal.specs.declared.entry.Entry.{Entry}
+use Rattle.pj_journal.specs.declared.table.Table.{Table}
+use Rattle.pj_journal.specs.History.{IsRegular, catalog}
+use Rattle.pj_legal.specs.declared.reply.Reply.{Reply}
+use Rattle.pj_legal.specs.declared.reply.Reply.TheVariants as replies
+use Rattle.pj_legal.specs.declared.types.Bound.{Bound}
+use Rattle.pj_legal.specs.declared.types.Refusal.{Refusal}
+use Rattle.pj_legal.specs.declared.types.Refusal.TheVariants.{UnknownTable, TableExists}
+use Rattle.pj_legal.specs.Legal.{Said, statements, Form, IsLegal}
+use Rattle.pj_legal.specs.Run.{Run, LinesRise, cut}
+use Rattle.pj_legal.specs.Texts.{texts_of, reply_text, announced, name_at}
+use Rattle.pj_legal.specs.Binding.{IsBound, IsRefusal}
+
+-- a run of a script's first statements leaves a legal history of the script that has no other lines
+abbrev pub CutRunsAreLegal : Type 0
+CutRunsAreLegal =
+    (limit n : ℕ) (script : Script) (replies : List Reply) (h : List Entry) → LinesRise 0 (statements script)
+    → Run limit [] (take n (statements script)) replies h → IsRegular h → length h ≤ limit → IsLegal limit (cut n script) h replies
+
+-- a run goes on by one more statement, from where it ended
+abbrev pub RunGoesOn : Type 0
+RunGoesOn =
+    (limit : ℕ) (place : List Entry) (saids : List Said) (replies : List Reply) (mid : List Entry) (said : Said) (added : List Entry) (reply : Reply)
+    → Run limit place saids replies mid → Form limit mid said added reply
+    → Run limit place (saids ++ said ∷ []) (replies ++ reply ∷ []) (mid ++ added)
+
+-- a run has a reply to each of its statements
+abbrev pub RunIsAsLong : Type 0
+RunIsAsLong =
+    (limit : ℕ) (place : List Entry) (saids : List Said) (replies : List Reply) (h : List Entry)
+    → Run limit place saids replies h → length saids ≡ length replies
+
+-- the text of one more reply stands behind those of the others
+abbrev pub TextsGoOn : Type 0
+TextsGoOn =
+    (names : List (List ℕ)) (saids : List Said) (replies : List Reply) (said : Said) (reply : Reply) → length saids ≡ length replies
+    → texts_of names (saids ++ said ∷ []) (replies ++ reply ∷ [])
+    ≡ texts_of names saids replies ++ reply_text said.line (name_at names said.session) reply
+
+-- no two of the tables have one name
+abbrev pub HasUniqueNames : List Table → Type 0
+HasUniqueNames tables =
+    (i j : ℕ) (a b : Table) → slice_get tables i ≡ Some a → slice_get tables j ≡ Some b → a.name ≡ b.name → i ≡ j
+
+-- the catalog of a regular history has no two tables of one name
+abbrev pub NamesAreUnique : Type 0
+NamesAreUnique = (h : List Entry) → IsRegular h → HasUniqueNames (catalog h)
+
+-- where no two tables have one name, what binds isn't refused
+abbrev pub BoundOrRefused : Type 0
+BoundOrRefused =
+    (tables : List Table) (statement : Statement) (bound : Bound) (refusal : Refusal) → HasUniqueNames tables
+    → IsBound tables statement bound → IsRefusal tables statement refusal → ⊥
+
+-- a number has one text in decimal
+abbrev pub NumberHasOneText : Type 0
+NumberHasOneText = (m n : ℕ) → m < 2 ^ 64 → n < 2 ^ 64 → decimal m ≡ decimal n → m ≡ n
+
+-- no line feed in the text
+abbrev pub IsOneLine : List ℕ → Type 0
+IsOneLine text = Contains text 10 → ⊥
+
+-- no line feed in the name that a refusal gives
+abbrev pub IsPlainRefusal : Refusal → Type 0
+IsPlainRefusal (UnknownTable name) = IsOneLine name
+IsPlainRefusal (TableExists name) = IsOneLine name
+IsPlainRefusal refusal = Unit {0}
+
+-- no line feed in a name that a reply gives
+abbrev pub IsPlain : Reply → Type 0
+IsPlain (replies.Refused refusal) = IsPlainRefusal refusal
+IsPlain reply = Unit {0}
+
+-- from a text that begins with a reply its line and its name can be read, and what it announces where its names have no line feed
+abbrev pub RepliesAreToldApart : Type 0
+RepliesAreToldApart =
+    (l m : ℕ) (a b : List ℕ) (r s : Reply) (more others : List ℕ) → l < 2 ^ 32 → m < 2 ^ 32 → IsName a → IsName b
+    → reply_text l a r ++ more ≡ reply_text m b s ++ others
+    → (l ≡ m) × (a ≡ b) × (IsPlain r → IsPlain s → announced r ≡ announced s)
+
+-- both are done, have as many rows (below 2 ^ 64), or are refused in the same way
+abbrev pub SayTheSame : Reply → Reply → Type 0
+SayTheSame replies.Done replies.Done = Unit {0}
+SayTheSame (replies.Rows out) (replies.Rows other) =
+    length out.rows < 2 ^ 64 → length other.rows < 2 ^ 64 → length out.rows ≡ length other.rows
+SayTheSame (replies.Refused refusal) (replies.Refused other) = refusal ≡ other
+SayTheSame reply other = ⊥
+
+-- what is announced tells of which kind a reply is, and its refusal
+abbrev pub AnnouncementsAreToldApart : Type 0
+AnnouncementsAreToldApart = (r s : Reply) → announced r ≡ announced s → SayTheSame r s

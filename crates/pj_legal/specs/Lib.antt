@@ -1,0 +1,14 @@
+pub mod Answers
+pub mod Binding
+pub mod Faults
+pub mod Laws
+pub mod Legal
+pub mod Run
+pub mod Texts
+pub use Rattle.pj_value.specs.Values
+pub use Rattle.pj_value.specs.Rows
+pub use Rattle.pj_value.specs.Escaping
+pub use Rattle.pj_journal.specs.History
+pub use Rattle.pj_journal.specs.Log
+pub use Rattle.pj_parse.specs.Thin
+pub use Rattle.pj_parse.specs.Lines

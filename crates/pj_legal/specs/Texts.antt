@@ -1,0 +1,105 @@
+-- The texts of replies and of histories (docs/FORMATS.md).
+use Rattle.std.specs.Prelude.{ℕ, ◌+◌, List, [], ◌∷◌, ◌++◌, length, map, slice_index_or, codes}
+use Rattle.std.specs.List.{flat_map, join_with_byte}
+use Rattle.std.specs.Fmt.{decimal}
+use Rattle.pj_value.specs.declared.value.Value.{Value}
+use Rattle.pj_value.specs.declared.value.Value.TheVariants as values
+use Rattle.pj_value.specs.Escaping.{escaped}
+use Rattle.pj_parse.specs.declared.types.Script.{Script}
+use Rattle.pj_journal.specs.declared.entry.Actor.{Actor}
+use Rattle.pj_journal.specs.declared.entry.Actor.TheVariants.{Session}
+use Rattle.pj_journal.specs.declared.entry.What.{What}
+use Rattle.pj_journal.specs.declared.entry.What.TheVariants as whats
+use Rattle.pj_journal.specs.declared.entry.Entry.{Entry}
+use Rattle.pj_journal.specs.History.{catalog, names}
+use Rattle.pj_legal.specs.declared.types.LimitName.{LimitName}
+use Rattle.pj_legal.specs.declared.types.LimitName.TheVariants.{History}
+use Rattle.pj_legal.specs.declared.types.Refusal.{Refusal}
+use Rattle.pj_legal.specs.declared.types.Refusal.TheVariants as refusals
+use Rattle.pj_legal.specs.declared.reply.Reply.{Reply}
+use Rattle.pj_legal.specs.declared.reply.Reply.TheVariants as replies
+use Rattle.pj_legal.specs.Legal.{Said, statements}
+
+-- a value in a line of output
+abbrev pub value_text : Value → List ℕ
+value_text (values.Num n) = decimal n
+value_text (values.Text text) = escaped text
+
+-- a row: its values, parted by tabs
+abbrev pub row_text : List Value → List ℕ
+row_text row = join_with_byte 9 (map value_text row)
+
+-- the name of a limit
+abbrev pub limit_text : LimitName → List ℕ
+limit_text History = codes "HISTORY"
+
+-- a refusal
+abbrev pub refusal_text : Refusal → List ℕ
+refusal_text (refusals.Limit limit) = codes "LIMIT " ++ limit_text limit
+refusal_text (refusals.UnknownTable name) = codes "UNKNOWN_TABLE " ++ name
+refusal_text (refusals.TableExists name) = codes "TABLE_ALREADY_EXISTS " ++ name
+refusal_text refusals.NotBuilt = codes "NOT_BUILT"
+refusal_text refusals.NoMemory = codes "NO_MEMORY"
+
+-- what the line of a reply says
+abbrev pub announced : Reply → List ℕ
+announced replies.Done = codes "ok"
+announced (replies.Rows out) = codes "rows " ++ decimal (length out.rows)
+announced (replies.Refused refusal) = refusal_text refusal
+
+-- the lines that follow it
+abbrev pub following : Reply → List (List ℕ)
+following replies.Done = []
+following (replies.Rows out) = map row_text out.rows
+following (replies.Refused refusal) = []
+
+-- a line, with its line feed
+abbrev pub as_line : List ℕ → List ℕ
+as_line text = text ++ 10 ∷ []
+
+-- a reply: the script's line, the session's name, and what is said, then the lines that this announces
+unfoldable pub reply_text : ℕ → List ℕ → Reply → List ℕ
+reply_text line name reply =
+    as_line (decimal line ++ (32 ∷ (name ++ (32 ∷ announced reply)))) ++ flat_map as_line (following reply)
+
+-- the name of this number
+abbrev pub name_at : List (List ℕ) → ℕ → List ℕ
+name_at names number = slice_index_or names number []
+
+-- the replies of statements, in their order
+abbrev pub texts_of : List (List ℕ) → List Said → List Reply → List ℕ
+texts_of names [] more = []
+texts_of names (said ∷ saids) [] = []
+texts_of names (said ∷ saids) (reply ∷ more) = reply_text said.line (name_at names said.session) reply ++ texts_of names saids more
+
+-- the replies of a script
+abbrev pub replies_text : Script → List Reply → List ℕ
+replies_text script said = texts_of script.names (statements script) said
+
+-- who made an entry
+abbrev pub actor_text : List (List ℕ) → Actor → List ℕ
+actor_text names (Session number) = name_at names number
+
+-- what an entry did, with the names of the tables of its place
+abbrev pub what_text : List (List ℕ) → What → List ℕ
+what_text tables (whats.Created table) = codes "created " ++ table.name
+what_text tables whats.Refused = codes "refused"
+what_text tables (whats.Looked table) = codes "looked " ++ name_at tables table
+what_text tables (whats.Begun table) = codes "begun " ++ name_at tables table
+what_text tables (whats.Inserted table block rows) =
+    codes "inserted " ++ (name_at tables table ++ (32 ∷ (decimal block ++ (32 ∷ decimal (length rows.rows)))))
+
+-- the line of an entry: its number, its actor, its line, and what it did
+unfoldable pub entry_text : List (List ℕ) → ℕ → List (List ℕ) → Entry → List ℕ
+entry_text sessions number tables entry =
+    as_line (decimal number ++ (32 ∷ (actor_text sessions entry.actor ++ (32 ∷ (decimal entry.line ++ (32 ∷ what_text tables entry.what))))))
+
+-- the lines of entries, `place` being the history before the first
+abbrev pub entries_text : List (List ℕ) → List Entry → List Entry → List ℕ
+entries_text sessions place [] = []
+entries_text sessions place (entry ∷ more) =
+    entry_text sessions (length place + 1) (names (catalog place)) entry ++ entries_text sessions (place ++ entry ∷ []) more
+
+-- the text of a history
+abbrev pub history_text : List (List ℕ) → List Entry → List ℕ
+history_text sessions h = as_line (codes "history " ++ decimal (length h)) ++ entries_text sessions [] h

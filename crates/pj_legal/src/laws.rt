@@ -1,0 +1,56 @@
+//! Laws over the definitions of this crate. Each function does nothing: its clause is the law.
+ghost use Rattle.pj_legal.specs.Laws.{CutRunsAreLegal, RunGoesOn, RunIsAsLong, TextsGoOn, NamesAreUnique, BoundOrRefused, NumberHasOneText, RepliesAreToldApart, AnnouncementsAreToldApart};
+ghost use Rattle.pj_legal.specs.Run.{RunsAreLegal};
+
+/// What one thread leaves that runs a script's statements in their order is a legal history.
+pub fn runs_are_legal()
+    ensures { RunsAreLegal }
+{}
+
+/// What one thread leaves that stopped behind one of a script's statements is a legal history of the script up to
+/// that statement.
+pub fn cut_runs()
+    ensures { CutRunsAreLegal }
+{}
+
+/// A run goes on by one more statement.
+pub fn run_goes_on()
+    ensures { RunGoesOn }
+{}
+
+/// A run has as many replies as statements.
+pub fn run_is_as_long()
+    ensures { RunIsAsLong }
+{}
+
+/// The text of one more reply stands behind those of the others.
+pub fn texts_go_on()
+    ensures { TextsGoOn }
+{}
+
+/// No two tables of a regular history have one name.
+pub fn names_are_unique()
+    ensures { NamesAreUnique }
+{}
+
+/// A statement that binds isn't refused. The names must be unique: of two tables with one name the rows of an INSERT
+/// might fit the first alone.
+pub fn bound_or_refused()
+    ensures { BoundOrRefused }
+{}
+
+/// A number of 64 bits has one text in decimal.
+pub fn number_has_one_text()
+    ensures { NumberHasOneText }
+{}
+
+/// A reader of replies can tell them apart: the line and the session's name are read from a text that begins with a
+/// reply, and so is what it announces, where the name that a refusal gives has no line feed.
+pub fn replies_are_told_apart()
+    ensures { RepliesAreToldApart }
+{}
+
+/// What the line of a reply says tells of which kind it is, and a refusal with its name.
+pub fn announcements_are_told_apart()
+    ensures { AnnouncementsAreToldApart }
+{}

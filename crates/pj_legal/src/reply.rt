@@ -1,0 +1,117 @@
+//! The reply of a statement, and its text.
+ghost use Rattle.std.specs.Prelude.{◌≡◌, ◌<◌, ◌∷◌, ◌++◌, [], length, map, slice_index_or, IfOk, OnOk};
+ghost use Rattle.std.specs.List.{flat_map, join_with_byte};
+ghost use Rattle.std.specs.Fmt.{decimal};
+ghost use Rattle.pj_value.specs.Values.{value_of};
+ghost use Rattle.pj_legal.specs.Texts.{value_text, row_text, refusal_text, announced, following, as_line, reply_text as text_of_reply};
+
+use crate::bytes::{put, put_number};
+use crate::types::{LimitName, Refusal};
+use pj_value::{Cell, NoMemory, Rows, Text, escape};
+use std::alloc::Global;
+
+/// What a statement is answered.
+#[derive(Debug, Drop)]
+pub enum Reply {
+    /// It was done.
+    Done,
+    /// The rows that it asked for.
+    Rows(Rows),
+    /// It was refused.
+    Refused(Refusal),
+}
+
+/// The text of a reply to the statement of this line, of the session of this name: one line, and then the lines
+/// that it announces. Takes time and memory linear in the text.
+#[tactic(auto, unfolding(crate::specs::Texts::reply_text))]
+pub fn reply_text(alloc: Global, line: u32, name: &Text, reply: &Reply) -> Result<Text, NoMemory>
+    ensures { IfOk result (λ text. text ≡ text_of_reply line name.now reply.now) }
+{
+    let mut out = Vec::new(alloc);
+    put_number(&mut out, line as u64)?;
+    out.push(b' ')?;
+    put(&mut out, name.as_slice())?;
+    out.push(b' ')?;
+    put_announced(&mut out, reply)?;
+    out.push(b'\n')?;
+    put_following(&mut out, reply)?;
+    Ok(Text::from_vec(out))
+}
+
+fn put_announced(out: &mut Vec<u8>, reply: &Reply) -> Result<(), NoMemory>
+    ensures { OnOk result (out.new.items ≡ out.old.items ++ announced reply.now) }
+{
+    match reply {
+        Reply::Done => put(out, b"ok"),
+        Reply::Rows(rows) => {
+            put(out, b"rows ")?;
+            put_number(out, rows.len() as u64)
+        }
+        Reply::Refused(refusal) => put_refusal(out, refusal),
+    }
+}
+
+fn put_refusal(out: &mut Vec<u8>, refusal: &Refusal) -> Result<(), NoMemory>
+    ensures { OnOk result (out.new.items ≡ out.old.items ++ refusal_text refusal.now) }
+{
+    match refusal {
+        Refusal::Limit(LimitName::History) => put(out, b"LIMIT HISTORY"),
+        Refusal::UnknownTable(name) => put_named(out, b"UNKNOWN_TABLE ", name),
+        Refusal::TableExists(name) => put_named(out, b"TABLE_ALREADY_EXISTS ", name),
+        Refusal::NotBuilt => put(out, b"NOT_BUILT"),
+        Refusal::NoMemory => put(out, b"NO_MEMORY"),
+    }
+}
+
+fn put_named(out: &mut Vec<u8>, words: &[u8], name: &Text) -> Result<(), NoMemory>
+    ensures { OnOk result (out.new.items ≡ out.old.items ++ (words.now ++ name.now)) }
+{
+    put(out, words)?;
+    put(out, name.as_slice())?;
+    Ok(())
+}
+
+fn put_following(out: &mut Vec<u8>, reply: &Reply) -> Result<(), NoMemory>
+    ensures { OnOk result (out.new.items ≡ out.old.items ++ flat_map as_line (following reply.now)) }
+{
+    match reply {
+        Reply::Done => Ok(()),
+        Reply::Rows(rows) => put_rows(out, rows),
+        Reply::Refused(_) => Ok(()),
+    }
+}
+
+fn put_rows(out: &mut Vec<u8>, rows: &Rows) -> Result<(), NoMemory>
+    ensures { OnOk result (out.new.items ≡ out.old.items ++ flat_map as_line (map row_text rows.now.rows)) }
+{
+    'rows: for row in 0..rows.len() {
+        put_row(out, rows, row)?;
+        out.push(b'\n')?;
+    }
+    Ok(())
+}
+
+fn put_row(out: &mut Vec<u8>, rows: &Rows, row: usize) -> Result<(), NoMemory>
+    requires { row < length rows.now.rows }
+    ensures { OnOk result (out.new.items ≡ out.old.items ++ row_text (slice_index_or rows.now.rows row [])) }
+{
+    let columns = rows.kinds().len();
+    if columns == 0 {
+        return Ok(());
+    }
+    put_cell(out, rows.cell(row, 0))?;
+    'columns: for column in 1..columns {
+        out.push(b'\t')?;
+        put_cell(out, rows.cell(row, column))?;
+    }
+    Ok(())
+}
+
+fn put_cell(out: &mut Vec<u8>, cell: Cell<'_>) -> Result<(), NoMemory>
+    ensures { OnOk result (out.new.items ≡ out.old.items ++ value_text (value_of cell.entry)) }
+{
+    match cell {
+        Cell::Num(n) => put_number(out, n),
+        Cell::Text(text) => escape(text.as_slice(), out),
+    }
+}

@@ -1,0 +1,4 @@
+pub mod ColumnLemmas
+pub mod EscapingLemmas
+pub mod LayoutLemmas
+pub mod RowsLemmas

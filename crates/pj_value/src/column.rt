@@ -1,0 +1,156 @@
+//! A column: values of one kind. Numbers and texts lie in vectors of their own, so that a number takes eight bytes.
+ghost use Rattle.std.specs.Prelude.{◌≡◌, ◌<◌, ◌++◌, ◌∷◌, [], ◌↔◌, IfOk, OnOk, OnErr, length, take, slice_index_or};
+ghost use Rattle.pj_value.specs.Values.{kind_of, value_of};
+ghost use Rattle.pj_value.specs.Columns.{no_values, AreOfKind};
+ghost use Rattle.pj_value.specs.declared.value.Value.TheVariants as values;
+
+use crate::memory::{NoMemory, PushFault};
+use crate::text::Text;
+use crate::value::{Cell, Kind, Value};
+use std::alloc::Global;
+use std::marker::Model;
+
+/// The values, by their kind.
+#[derive(Debug, Drop)]
+enum Items {
+    Num(Vec<u64>),
+    Text(Vec<Text>),
+}
+
+/// Values of one kind, which contracts see as the kind and the list of the values.
+#[derive(Debug, Drop)]
+pub struct Column {
+    items: Items,
+}
+
+impl Model for Column {
+    ghost use Rattle.pj_value.specs.Columns.{KindedValues, AreOfKind};
+
+    ghost Value = { KindedValues };
+
+    ghost use Rattle.pj_value.specs.Layout.{kinded_values};
+
+    ghost view = { λ c. kinded_values c.items };
+
+    ghost invariant = { λ c. AreOfKind (kinded_values c.items).kind (kinded_values c.items).values };
+}
+
+impl Column {
+    /// No values, of this kind. Takes no memory.
+    pub fn new(alloc: Global, kind: Kind) -> Column
+        ensures { result ≡ no_values kind }
+    {
+        let items = match kind {
+            Kind::Num => Items::Num(Vec::new(alloc)),
+            Kind::Text => Items::Text(Vec::new(alloc)),
+        };
+        Column { items }
+    }
+
+    /// The kind of the values.
+    pub fn kind(&self) -> Kind
+        ensures kind { result ≡ self.now.kind }
+        ensures of_kind { AreOfKind self.now.kind self.now.values }
+    {
+        match &self.items {
+            Items::Num(_) => Kind::Num,
+            Items::Text(_) => Kind::Text,
+        }
+    }
+
+    /// How many values there are.
+    pub fn len(&self) -> usize
+        ensures { result ≡ length self.now.values }
+    {
+        match &self.items {
+            Items::Num(numbers) => numbers.len(),
+            Items::Text(texts) => texts.len(),
+        }
+    }
+
+    /// Adds a value behind the others, in amortised constant time.
+    pub fn push(&mut self, value: Value) -> Result<(), PushFault>
+        ensures added { OnOk result (self.new ≡ record self.old { values = self.old.values ++ value ∷ [] }) }
+        ensures shape { (result ≡ Err PushFault.WrongShape) ↔ (kind_of value ≡ self.old.kind → ⊥) }
+        ensures same { OnErr result (self.new ≡ self.old) }
+    {
+        match (&mut self.items, value) {
+            (Items::Num(numbers), Value::Num(number)) => Ok(numbers.push(number)?),
+            (Items::Text(texts), Value::Text(text)) => Ok(texts.push(text)?),
+            _ => Err(PushFault::WrongShape),
+        }
+    }
+
+    /// The value at this place, lent.
+    pub fn cell(&self, at: usize) -> Cell<'_>
+        requires { at < length self.now.values }
+        ensures { value_of result ≡ slice_index_or self.now.values at (values.Num 0) }
+    {
+        match &self.items {
+            Items::Num(numbers) => Cell::Num(numbers[at]),
+            Items::Text(texts) => Cell::Text(&texts[at]),
+        }
+    }
+
+    /// The same values of the same kind, in memory of their own.
+    pub(crate) fn duplicate(&self, alloc: Global) -> Result<Column, NoMemory>
+        ensures { IfOk result (λ c. c ≡ self.now) }
+    {
+        let items = match &self.items {
+            Items::Num(numbers) => Items::Num(Vec::from_slice(alloc, numbers.as_slice())?),
+            Items::Text(texts) => {
+                let mut copies = Vec::new(alloc);
+                push_copies(&mut copies, texts.as_slice(), alloc)?;
+                Items::Text(copies)
+            }
+        };
+        Ok(Column { items })
+    }
+
+    /// Adds the values of another column of this kind behind the others, in time linear in these alone.
+    pub(crate) fn append(&mut self, more: &Column, alloc: Global) -> Result<(), NoMemory>
+        requires { more.now.kind ≡ self.old.kind }
+        ensures added { OnOk result (self.new ≡ record self.old { values = self.old.values ++ more.now.values }) }
+        ensures same { OnErr result (self.new ≡ self.old) }
+    {
+        match (&mut self.items, &more.items) {
+            (Items::Num(held), Items::Num(added)) => Ok(held.extend_from_slice(added)?),
+            (Items::Text(held), Items::Text(added)) => append_texts(held, added, alloc),
+            _ => unreachable!(),
+        }
+    }
+
+    /// Drops the values from this place on.
+    pub(crate) fn truncate(&mut self, len: usize)
+        ensures { self.new ≡ record self.old { values = take len self.old.values } }
+    {
+        match &mut self.items {
+            Items::Num(numbers) => numbers.truncate(len),
+            Items::Text(texts) => texts.truncate(len),
+        }
+    }
+}
+
+/// Adds copies of the texts behind the others, all or none.
+fn append_texts(texts: &mut Vec<Text>, more: &[Text], alloc: Global) -> Result<(), NoMemory>
+    ensures added { OnOk result (texts.new.items ≡ texts.old.items ++ more.now) }
+    ensures same { OnErr result (texts.new.items ≡ texts.old.items) }
+{
+    let len = texts.len();
+    let added = push_copies(texts, more, alloc);
+    if added.is_err() {
+        texts.truncate(len);
+    }
+    added
+}
+
+/// Adds copies of the texts behind the others. After an error some may have been added.
+fn push_copies(texts: &mut Vec<Text>, more: &[Text], alloc: Global) -> Result<(), NoMemory>
+    ensures added { OnOk result (texts.new.items ≡ texts.old.items ++ more.now) }
+    ensures kept { take (length texts.old.items) texts.new.items ≡ texts.old.items }
+{
+    for text in more {
+        texts.push(text.duplicate(alloc)?)?;
+    }
+    Ok(())
+}
