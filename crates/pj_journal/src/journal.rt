@@ -1,5 +1,5 @@
 //! The journal: the one history that is kept, with room that is made before an entry is added.
-ghost use Rattle.std.specs.Prelude.{◌≡◌, ◌+◌, ◌≤◌, ◌↔◌, [], ◌∷◌, ◌++◌, ◌<◌, length, OnOk};
+ghost use Rattle.std.specs.Prelude.{◌≡◌, ◌+◌, ◌^◌, ◌≤◌, ◌↔◌, [], ◌∷◌, ◌++◌, ◌<◌, length, OnOk};
 ghost use Rattle.pj_journal.specs.Log.{Log, IsFull, empty_log};
 ghost use Rattle.pj_journal.specs.declared.journal.MoveFault.TheVariants as faults;
 
@@ -98,6 +98,7 @@ impl Journal {
     pub fn entries(&self) -> &[Entry]
         ensures entries { result.now ≡ self.now.entries }
         ensures few { length self.now.entries ≤ self.now.limit }
+        ensures small { self.now.limit < 2 ^ 32 }
     {
         let _limit = self.limit;
         self.entries.as_slice()

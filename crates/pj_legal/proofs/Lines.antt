@@ -1,6 +1,6 @@
 -- Lines that are written piece by piece.
 use Rattle.std.proofs.Common.{◌≡◌, ℕ, ◌+◌, ◌<◌, List, [], ◌∷◌, ◌++◌, length, map, take, get_or, refl, sym, ◌∙◌, ap, append_assoc, arith}
-use Rattle.std.specs.List.{join_with_byte, AllByRecursion}
+use Rattle.std.specs.List.{join_with_byte}
 use Rattle.std.proofs.lemmas.List.{map_more, length-map, length-take-le}
 use Rattle.std.proofs.lemmas.List.Elements.{All-from_recursion}
 use Rattle.pj_value.specs.declared.value.Kind.{Kind}

@@ -1,7 +1,6 @@
 -- What a body means for a catalog: a bound statement, or a refusal (docs/GRAMMAR.md, "Binding").
 use Rattle.std.specs.Prelude.{◌≡◌, ℕ, ◌<◌, ◌⊎◌, List, [], ◌∷◌, length, map, Some, slice_get, Contains}
-use Rattle.pj_value.specs.Rows.{KindedRows, HaveKinds}
-use Rattle.pj_value.specs.declared.value.Value.{Value}
+use Rattle.pj_value.specs.Rows.{HaveKinds}
 use Rattle.pj_parse.specs.declared.types.Statement.{Statement}
 use Rattle.pj_parse.specs.declared.types.Statement.TheVariants as statements
 use Rattle.pj_parse.specs.declared.types.TreeColumn.{TreeColumn}
@@ -17,7 +16,7 @@ use Rattle.pj_legal.specs.declared.query.Item.TheVariants.{Agg}
 use Rattle.pj_legal.specs.declared.types.Bound.{Bound}
 use Rattle.pj_legal.specs.declared.types.Bound.TheVariants as bounds
 use Rattle.pj_legal.specs.declared.types.Refusal.{Refusal}
-use Rattle.pj_legal.specs.declared.types.Refusal.TheVariants.{Limit, UnknownTable, TableExists, NotBuilt, NoMemory}
+use Rattle.pj_legal.specs.declared.types.Refusal.TheVariants.{UnknownTable, TableExists, NotBuilt}
 
 -- the table of this number has this name
 abbrev pub IsTableAt : List Table → List ℕ → ℕ → Table → Type 0

@@ -10,7 +10,6 @@ use Rattle.pj_journal.specs.declared.entry.Actor.TheVariants.{Session}
 use Rattle.pj_journal.specs.declared.entry.What.{What}
 use Rattle.pj_journal.specs.declared.entry.What.TheVariants as whats
 use Rattle.pj_journal.specs.declared.entry.Entry.{Entry}
-use Rattle.pj_journal.specs.declared.table.Table.{Table}
 use Rattle.pj_journal.specs.History.{catalog, rows, IsRegular}
 use Rattle.pj_legal.specs.declared.types.Bound.{Bound}
 use Rattle.pj_legal.specs.declared.types.Bound.TheVariants as bounds

@@ -1,4 +1,10 @@
 pub mod Bytes
 pub mod Lines
+pub mod LineLaws
+pub mod ReadingLines
 pub mod Tokens
 pub mod Thin
+pub mod ThinLaws
+pub mod TokenReading
+pub mod PlaceReading
+pub mod ThinReading

@@ -6,6 +6,8 @@ use Rattle.pj_parse.specs.declared.types.Act.{Act}
 use Rattle.pj_parse.specs.declared.types.Act.TheVariants.{Whole}
 use Rattle.pj_parse.specs.declared.types.ScriptLine.{ScriptLine}
 use Rattle.pj_parse.specs.declared.types.Script.{Script}
+use Rattle.pj_parse.specs.declared.lines.ScriptFault.{ScriptFault}
+use Rattle.pj_parse.specs.declared.lines.ScriptFault.TheVariants.{BadLine, NoMemory}
 use Rattle.pj_parse.specs.Bytes.{is_blank, is_small, is_digit, AllAre, IsBlank}
 
 -- the byte in front of the first piece
@@ -81,7 +83,7 @@ AreLines mode at before [] lines after = (lines ≡ []) × (after ≡ before)
 AreLines mode at before (piece ∷ more) lines after =
     (IsSkipped piece × AreLines mode (at + 1) before more lines after)
     ⊎ ((line : ScriptLine) × (others : List ScriptLine) × (now : List (List ℕ)) × SpellsLine mode at before now piece line
-        × (lines ≡ line ∷ others) × AreLines mode (at + 1) now more others after)
+    × (lines ≡ line ∷ others) × AreLines mode (at + 1) now more others after)
 
 -- the bytes spell the script
 abbrev pub IsScript : ScriptMode → List ℕ → Script → Type 0
@@ -99,3 +101,8 @@ pub record IsBadLine (mode : ScriptMode) (bytes : List ℕ) (number : ℕ) : Typ
   pub good : AreLines mode 1 [] front lines names
   pub not_skipped : IsSkipped piece → ⊥
   pub no_line : (line : ScriptLine) (now : List (List ℕ)) → SpellsLine mode number names now piece line → ⊥
+
+-- a line that is refused is the first bad one; want of memory may come anywhere
+abbrev pub HasLineCause : ScriptMode → List ℕ → ScriptFault → Type 0
+HasLineCause mode bytes (BadLine number) = IsBadLine mode bytes number
+HasLineCause mode bytes NoMemory = Unit {0}

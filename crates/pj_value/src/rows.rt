@@ -69,7 +69,6 @@ impl Rows {
         ensures kinds { result.now ≡ self.now.kinds }
         ensures shape { HaveKinds self.now.kinds self.now.rows }
     {
-        let _columns = &self.columns;
         self.kinds.as_slice()
     }
 

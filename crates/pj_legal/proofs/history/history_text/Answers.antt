@@ -1,7 +1,6 @@
-use Rattle.std.proofs.Common.{◌≡◌, ℕ, ◌+◌, List, [], ◌∷◌, ◌++◌, map, take, length, codes, Bor, Vec, Global, append_assoc, arith, ap, sym, ◌∙◌}
+use Rattle.std.proofs.Common.{ℕ, ◌+◌, List, [], ◌∷◌, ◌++◌, map, take, length, codes, Bor, Vec, Global, append_assoc, arith, ap, sym, ◌∙◌}
 use Rattle.std.proofs.lemmas.List.{map_push}
 use Rattle.std.specs.Fmt.{decimal}
-use Rattle.pj_journal.specs.declared.entry.Entry.{Entry}
 use Rattle.pj_journal.specs.History.{catalog, names}
 use Rattle.pj_legal.specs.Texts.{as_line, entry_text, entries_text}
 use Rattle.pj_legal.proofs.Histories.{entries_text-more, names-created, names-other}

@@ -1,0 +1,15 @@
+use Rattle.std.proofs.Common.{◌≡◌, ◌+◌, ◌≤◌, [], length, vec_len}
+use Rattle.pj_parse.specs.Lines.{pieces, names_limit}
+use Rattle.pj_parse.specs.ReadingLines.{lines_at}
+use Rattle.pj_parse.proofs.LineLoop.{with_front}
+use Rattle.pj_parse.proofs.lines.read_lines.Given as goal
+
+abbrev pub invariant-pieces : goal.invariant-pieces
+invariant-pieces l = record {
+  room : l.number + length l.rest ≤ length l.bytes;
+  few : vec_len l.names ≤ names_limit l.mode;
+  read : with_front l.lines.items (lines_at l.mode (l.number + 1) l.names.items (pieces l.rest)) ≡ lines_at l.mode 1 [] (pieces l.bytes);
+}
+
+abbrev pub decreases-pieces : goal.decreases-pieces
+decreases-pieces l = length l.rest

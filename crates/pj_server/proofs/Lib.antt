@@ -1,0 +1,6 @@
+pub mod HistoryLemmas
+pub mod StateLemmas
+pub mod StatusLemmas
+pub mod MoveLemmas
+pub mod PlayLemmas
+pub mod SelectLemmas

@@ -1,0 +1,8 @@
+use Rattle.std.proofs.Common.{◌≡◌}
+use Rattle.pj_server.proofs.StateLemmas.{Stands-noted}
+use Rattle.pj_server.proofs.server.Server.note.Goals as goal
+
+pub invariant_of-self : goal.invariant_of-self
+invariant_of-self c =
+    let fits = rw (← c.self.view_is) at c.requires.fits in
+    rw c.add.ensures.grown (Stands-noted _ _ _ _ c.requires.nothing fits c.self.invariant)

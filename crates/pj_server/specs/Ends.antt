@@ -1,0 +1,57 @@
+-- How the parts of a run end. No public contract cites this file.
+use Rattle.std.specs.Prelude.{◌≡◌, ℕ, Bool, true, false, List, ◌⊎◌, Option}
+use Rattle.std.specs.Io.KnownBytes.{Appends}
+use Rattle.pj_io.specs.Transfers.{AppendsPart}
+use Rattle.pj_parse.specs.declared.types.Script.{Script}
+use Rattle.pj_journal.specs.declared.entry.Entry.{Entry}
+use Rattle.pj_legal.specs.declared.reply.Reply.{Reply}
+use Rattle.pj_legal.specs.Legal.{IsLegal}
+use Rattle.pj_legal.specs.Run.{cut}
+use Rattle.pj_server.specs.declared.end.End.{End}
+use Rattle.pj_server.specs.declared.end.End.TheVariants as ends
+use Rattle.pj_server.specs.Played.{bad_line_text, output}
+use Rattle.pj_server.specs.RunLines.{Writes}
+
+-- a bad line was told, or a front of its text was
+abbrev pub TellsLine : End → ℕ → Option (List ℕ) → Option (List ℕ) → Type 0
+TellsLine ends.BadLine line before after = Appends before after (bad_line_text line)
+TellsLine ends.SinkFailed line before after = AppendsPart before after (bad_line_text line)
+TellsLine ends.NoMemory line before after = AppendsPart before after (bad_line_text line)
+TellsLine ends.Finished line before after = ⊥
+TellsLine ends.Usage line before after = ⊥
+TellsLine ends.SourceFailed line before after = ⊥
+TellsLine ends.TooLarge line before after = ⊥
+
+-- the whole script was played
+pub record WholeScript (limit : ℕ) (wanted : Bool) (script : Script) (h : List Entry) (before after : Option (List ℕ)) : Type 0 where
+  pub replies : List Reply
+  pub legal : IsLegal limit script h replies
+  pub written : Appends before after (output wanted script h replies)
+
+-- some of its lines were
+pub record PartScript (limit : ℕ) (wanted : Bool) (script : Script) (h : List Entry) (before after : Option (List ℕ)) : Type 0 where
+  pub lines : ℕ
+  pub replies : List Reply
+  pub legal : IsLegal limit (cut lines script) h replies
+  pub written : AppendsPart before after (output wanted (cut lines script) h replies)
+
+-- a script was played whole, or in part
+abbrev pub ScriptEnds : End → ℕ → Bool → Script → List Entry → Option (List ℕ) → Option (List ℕ) → Type 0
+ScriptEnds ends.Finished limit wanted script h before after = WholeScript limit wanted script h before after
+ScriptEnds ends.SinkFailed limit wanted script h before after = PartScript limit wanted script h before after
+ScriptEnds ends.NoMemory limit wanted script h before after = PartScript limit wanted script h before after
+ScriptEnds ends.BadLine limit wanted script h before after = ⊥
+ScriptEnds ends.Usage limit wanted script h before after = ⊥
+ScriptEnds ends.SourceFailed limit wanted script h before after = ⊥
+ScriptEnds ends.TooLarge limit wanted script h before after = ⊥
+
+-- the text was written where the lines ended well and it is wanted, and else nothing
+abbrev pub FinishesSo : End → End → Bool → Option (List ℕ) → Option (List ℕ) → List ℕ → Type 0
+FinishesSo ends.Finished end true before after text = Writes end before after text
+FinishesSo ends.Finished end false before after text = (end ≡ ends.Finished) × (after ≡ before)
+FinishesSo ends.BadLine end wanted before after text = (end ≡ ends.BadLine) × (after ≡ before)
+FinishesSo ends.SinkFailed end wanted before after text = (end ≡ ends.SinkFailed) × (after ≡ before)
+FinishesSo ends.NoMemory end wanted before after text = (end ≡ ends.NoMemory) × (after ≡ before)
+FinishesSo ends.Usage end wanted before after text = (end ≡ ends.Usage) × (after ≡ before)
+FinishesSo ends.SourceFailed end wanted before after text = (end ≡ ends.SourceFailed) × (after ≡ before)
+FinishesSo ends.TooLarge end wanted before after text = (end ≡ ends.TooLarge) × (after ≡ before)

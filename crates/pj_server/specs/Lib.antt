@@ -1,0 +1,17 @@
+pub mod Store
+pub mod State
+pub mod Moves
+pub mod Words
+pub mod Played
+pub mod Status
+pub mod RunLines
+pub mod Ends
+pub use Rattle.pj_legal.specs.Answers
+pub use Rattle.pj_legal.specs.Legal
+pub use Rattle.pj_legal.specs.Run
+pub use Rattle.pj_legal.specs.Texts
+pub use Rattle.pj_journal.specs.History
+pub use Rattle.pj_journal.specs.Log
+pub use Rattle.pj_parse.specs.Lines
+pub use Rattle.pj_io.specs.Faults
+pub use Rattle.pj_io.specs.Transfers

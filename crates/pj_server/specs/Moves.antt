@@ -1,0 +1,68 @@
+-- What a statement's moves do to the journal.
+use Rattle.std.specs.Prelude.{◌≡◌, ◌<◌, ℕ, ◌+◌, ◌⊎◌, List, [], ◌∷◌, ◌++◌, length, Some, slice_get}
+use Rattle.pj_value.specs.Rows.{HaveKinds}
+use Rattle.pj_journal.specs.declared.table.Table.{Table}
+use Rattle.pj_journal.specs.declared.entry.What.{What}
+use Rattle.pj_journal.specs.declared.entry.What.TheVariants as whats
+use Rattle.pj_journal.specs.declared.entry.Entry.{Entry}
+use Rattle.pj_journal.specs.History.{kinds_of}
+use Rattle.pj_journal.specs.Log.{Log}
+use Rattle.pj_legal.specs.declared.types.Bound.{Bound}
+use Rattle.pj_legal.specs.declared.types.Bound.TheVariants as bounds
+use Rattle.pj_legal.specs.declared.types.LimitName.TheVariants.{History}
+use Rattle.pj_legal.specs.declared.types.Refusal.TheVariants as refusals
+use Rattle.pj_legal.specs.declared.reply.Reply.{Reply}
+use Rattle.pj_legal.specs.declared.reply.Reply.TheVariants as replies
+use Rattle.pj_legal.specs.declared.binding.BindFault.{BindFault}
+use Rattle.pj_legal.specs.declared.binding.BindFault.TheVariants as faults
+use Rattle.pj_legal.specs.Binding.{IsUnknown, BodyIsRefused}
+use Rattle.pj_legal.specs.Legal.{Said, entry_of, BoundForm, Form, IsFirstMove, IsBegun}
+use Rattle.pj_server.specs.declared.server.By.{By}
+
+-- the statement of a session and a line, its body aside
+abbrev pub said_by : By → Said
+said_by by = record { line = by.line; session = by.session; body = [] }
+
+-- these moves were added to the journal, whose limit stays
+pub record Adds (old new : Log) (added : List Entry) : Type 0 where
+  pub grown : new.entries ≡ old.entries ++ added
+  pub limit : new.limit ≡ old.limit
+
+-- the statement made its moves and got its reply
+abbrev pub Serves : Log → Log → Said → Reply → Type 0
+Serves old new said reply = (added : List Entry) × Adds old new added × Form old.limit old.entries said added reply
+
+-- the bound statement fits these tables
+abbrev pub BoundFits : List Table → Bound → Type 0
+BoundFits tables (bounds.Create table) = IsUnknown tables table.name × (length tables < 64)
+BoundFits tables (bounds.Insert place rows) =
+    ((table : Table) × (slice_get tables place ≡ Some table) × (rows.kinds ≡ kinds_of table)) × HaveKinds rows.kinds rows.rows
+BoundFits tables (bounds.Select place query) = place < length tables
+
+-- no move, or the one that the bound statement may stop after
+abbrev pub BoundStops : (Bound → What → Type 0) → Said → Bound → List Entry → Type 0
+BoundStops may said bound added = (added ≡ []) ⊎ ((what : What) × may bound what × (added ≡ entry_of said what ∷ []))
+
+-- the bound statement made its moves, or ended early
+abbrev pub BoundDone : Log → Said → Bound → List Entry → Reply → Type 0
+BoundDone old said bound added reply =
+    BoundForm old.entries said bound added reply
+    ⊎ ((reply ≡ replies.Refused refusals.NoMemory) × BoundStops IsFirstMove said bound added)
+    ⊎ ((reply ≡ replies.Refused (refusals.Limit History)) × BoundStops IsBegun said bound added × (length old.entries + length added ≡ old.limit))
+
+-- a bound statement was done
+abbrev pub Does : Log → Log → Said → Bound → Reply → Type 0
+Does old new said bound reply = (added : List Entry) × Adds old new added × BoundDone old said bound added reply
+
+-- the move changes neither tables nor rows
+abbrev pub ChangesNothing : What → Type 0
+ChangesNothing (whats.Created table) = ⊥
+ChangesNothing whats.Refused = Unit {0}
+ChangesNothing (whats.Looked table) = Unit {0}
+ChangesNothing (whats.Begun table) = Unit {0}
+ChangesNothing (whats.Inserted table block rows) = ⊥
+
+-- the body is refused so for these tables, or there was no memory
+abbrev pub IsReadFault : List Table → List ℕ → BindFault → Type 0
+IsReadFault tables body (faults.Refused refusal) = BodyIsRefused tables body refusal
+IsReadFault tables body faults.NoMemory = Unit {0}

@@ -1,0 +1,36 @@
+-- Lines of a script that were run, one after the other.
+use Rattle.std.specs.Prelude.{◌≡◌, ℕ, List, map, take, Option}
+use Rattle.std.specs.Io.KnownBytes.{Appends}
+use Rattle.pj_io.specs.Transfers.{AppendsPart}
+use Rattle.pj_parse.specs.declared.types.ScriptLine.{ScriptLine}
+use Rattle.pj_journal.specs.Log.{Log}
+use Rattle.pj_legal.specs.declared.reply.Reply.{Reply}
+use Rattle.pj_legal.specs.Legal.{Said, statement_of}
+use Rattle.pj_legal.specs.Run.{Run}
+use Rattle.pj_legal.specs.Texts.{name_at, reply_text, texts_of}
+use Rattle.pj_server.specs.declared.end.End.{End}
+use Rattle.pj_server.specs.declared.end.End.TheVariants as ends
+use Rattle.pj_server.specs.Moves.{Serves}
+
+-- all of a text was written, or a front of it, by how the write ended
+abbrev pub Writes : End → Option (List ℕ) → Option (List ℕ) → List ℕ → Type 0
+Writes ends.Finished before after text = Appends before after text
+Writes ends.SinkFailed before after text = AppendsPart before after text
+Writes ends.NoMemory before after text = AppendsPart before after text
+Writes ends.BadLine before after text = ⊥
+Writes ends.Usage before after text = ⊥
+Writes ends.SourceFailed before after text = ⊥
+Writes ends.TooLarge before after text = ⊥
+
+-- a statement was run, and its reply was written
+pub record RunsLine (end : End) (old new : Log) (names : List (List ℕ)) (said : Said) (before after : Option (List ℕ)) : Type 0 where
+  pub reply : Reply
+  pub serves : Serves old new said reply
+  pub written : Writes end before after (reply_text said.line (name_at names said.session) reply)
+
+-- the first lines were run, and their replies were written
+pub record RunsLines (end : End) (count : ℕ) (old new : Log) (names : List (List ℕ)) (lines : List ScriptLine) (before after : Option (List ℕ)) : Type 0 where
+  pub replies : List Reply
+  pub run : Run old.limit old.entries (take count (map statement_of lines)) replies new.entries
+  pub limit : new.limit ≡ old.limit
+  pub written : Writes end before after (texts_of names (take count (map statement_of lines)) replies)

@@ -1,0 +1,13 @@
+//! The server: one thread that runs the statements of a script, and the top call of `projplay`.
+#![tactic(auto)]
+
+mod end;
+mod lines;
+mod playing;
+mod select;
+mod server;
+mod store;
+mod telling;
+
+pub use playing::{Ran, play};
+pub use telling::{About, asked_about};

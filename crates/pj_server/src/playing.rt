@@ -1,0 +1,270 @@
+//! The top call of `projplay`: from the bytes of a script to the bytes of its replies and the history of its run.
+ghost use Rattle.std.specs.Prelude.{◌≡◌, ℕ, ◌<◌, ◌≤◌, ◌↔◌, ◌⊎◌, List, [], ◌∷◌, length, map, Contains, Some, None, string_bytes, IfOk};
+ghost use Rattle.std.specs.List.{AllByRecursion};
+ghost use Rattle.pj_io.specs.Faults.{Rose};
+ghost use Rattle.pj_io.specs.Transfers.{TookTooMuch, TookAtMost};
+ghost use Rattle.pj_parse.specs.declared.types.ScriptMode.TheVariants.{Play};
+ghost use Rattle.pj_parse.specs.declared.types.Script.{Script};
+ghost use Rattle.pj_parse.specs.Lines.{IsScript};
+ghost use Rattle.pj_legal.specs.Legal.{statements};
+ghost use Rattle.pj_legal.specs.Run.{LinesRise};
+ghost use Rattle.pj_legal.specs.Texts.{history_text as text_of_history};
+ghost use Rattle.pj_server.specs.Words.{wish_of};
+ghost use Rattle.pj_server.specs.Played.{script_bytes, history_entries, DoesNothing, RunsSo, Reads, EndsSo, bad_line_text};
+ghost use Rattle.pj_server.specs.Ends.{TellsLine, ScriptEnds, FinishesSo};
+ghost use Rattle.pj_server.specs.declared.end.End.TheVariants as ends;
+
+use crate::end::End;
+use crate::lines::{run_lines, write_text};
+use crate::server::Server;
+use itoa::Buffer;
+use pj_io::{ReadFault, Sink, Source, read_all};
+use pj_journal::Journal;
+use pj_legal::{cut_runs, history_text, runs_are_legal};
+use pj_parse::types::{Script, ScriptMode};
+use pj_parse::{ScriptFault, lines_rise, no_script_with_a_bad_line, script};
+use pj_value::NoMemory;
+use std::alloc::Global;
+
+/// How many bytes a script may have.
+const SCRIPT_BYTES: usize = 16_777_216;
+
+/// How many entries the journal may have.
+const HISTORY: u32 = 4_294_967_295;
+
+/// How a call of `play` ended, and what it kept.
+#[derive(Drop)]
+pub struct Ran {
+    /// The status that the program ends with.
+    pub status: u8,
+    /// The one history that was kept.
+    pub history: Journal,
+}
+
+/// An end, and the history that was kept.
+#[derive(Drop)]
+pub(crate) struct Played {
+    pub(crate) end: End,
+    pub(crate) history: Journal,
+}
+
+/// Reads a script of at most 16,777,216 bytes from the source, runs its lines in their order on this thread, and writes
+/// the reply of each as it comes, and, with the word `--history`, the text of the history behind them.
+///
+/// The words are the program's name and then nothing or that one word. The statuses are 0 where the script was run and
+/// all was written, 2 for words that aren't taken, 4 where the source failed, 7 for too many bytes, 3 for a bad line,
+/// 5 where the sink failed, and 6 for want of memory of the call itself.
+pub fn play<R: Source, W: Sink>(
+    alloc: Global,
+    words: &[String],
+    source: &mut R,
+    sink: &mut W,
+) -> Ran
+    // The words alone decide this.
+    ensures usage { (result.status ≡ 2) ↔ (wish_of (map string_bytes words.now) ≡ None) }
+
+    ensures source_failed { result.status ≡ 4 → Rose (R.faults source.old) (R.faults source.new) }
+    ensures too_large { result.status ≡ 7 → TookTooMuch script_bytes (R.left source.old) (R.left source.new) }
+    ensures not_too_large { (result.status ≡ 7 → ⊥) → TookAtMost script_bytes (R.left source.old) (R.left source.new) }
+
+    // The source's bytes have a bad line, and the first such was told.
+    ensures bad_line { result.status ≡ 3 → Reads ends.BadLine (wish_of (map string_bytes words.now)) (R.left source.old) (R.left source.new)
+        result.history.entries (W.taken sink.old) (W.taken sink.new) }
+
+    // The headline: the source's bytes spell a script, the history is legal for it with these replies, and their text was written.
+    ensures done { result.status ≡ 0 → Reads ends.Finished (wish_of (map string_bytes words.now)) (R.left source.old) (R.left source.new)
+        result.history.entries (W.taken sink.old) (W.taken sink.new) }
+
+    // The history is legal for the script cut after some lines, and a front of the text of that was written; or a front of the text
+    // of a bad line was.
+    ensures sink_failed { result.status ≡ 5 → Rose (W.faults sink.old) (W.faults sink.new) }
+    ensures stopped { result.status ≡ 5 → Reads ends.SinkFailed (wish_of (map string_bytes words.now)) (R.left source.old) (R.left source.new)
+        result.history.entries (W.taken sink.old) (W.taken sink.new) }
+    ensures starved { result.status ≡ 6 → EndsSo ends.NoMemory (wish_of (map string_bytes words.now)) (R.left source.old) (R.left source.new)
+        result.history.entries (W.taken sink.old) (W.taken sink.new) }
+
+    // Nothing was run and nothing written.
+    ensures quiet { (result.status ≡ 2) ⊎ (result.status ≡ 4) ⊎ (result.status ≡ 7) → DoesNothing result.history.entries (W.taken sink.old) (W.taken sink.new) }
+
+    // A script of the grammar is run to its end, unless there is no memory or the source or the sink fails.
+    ensures complete { (bytes : List ℕ) (script : Script) → R.left source.old ≡ Some bytes → length bytes ≤ script_bytes → IsScript Play bytes script
+        → (wish_of (map string_bytes words.now) ≡ None → ⊥) → (Rose (R.faults source.old) (R.faults source.new) → ⊥) → (Rose (W.faults sink.old) (W.faults sink.new) → ⊥)
+        → (result.status ≡ 0) ⊎ (result.status ≡ 6) }
+
+    ensures statuses { Contains (0 ∷ 2 ∷ 3 ∷ 4 ∷ 5 ∷ 6 ∷ 7 ∷ []) result.status }
+    ensures limit { result.history.limit ≡ history_entries }
+    ensures source_later { R.faults source.old ≤ R.faults source.new }
+    ensures sink_later { W.faults sink.old ≤ W.faults sink.new }
+{
+    no_script_with_a_bad_line();
+    let Played { end, history } = play_words(alloc, words, source, sink);
+    Ran {
+        status: end.status(),
+        history,
+    }
+}
+
+fn play_words<R: Source, W: Sink>(
+    alloc: Global,
+    words: &[String],
+    source: &mut R,
+    sink: &mut W,
+) -> Played
+    ensures ends { EndsSo result.end (wish_of (map string_bytes words.now)) (R.left source.old) (R.left source.new)
+        result.history.entries (W.taken sink.old) (W.taken sink.new) }
+    ensures source_failed { result.end ≡ End.SourceFailed → Rose (R.faults source.old) (R.faults source.new) }
+    ensures sink_failed { result.end ≡ End.SinkFailed → Rose (W.faults sink.old) (W.faults sink.new) }
+    ensures source_later { R.faults source.old ≤ R.faults source.new }
+    ensures sink_later { W.faults sink.old ≤ W.faults sink.new }
+    ensures limit { result.history.limit ≡ HISTORY }
+{
+    let Some(wanted) = wish(words) else {
+        return nothing(alloc, End::Usage);
+    };
+    match read_all(alloc, source, SCRIPT_BYTES) {
+        Ok(bytes) => play_bytes(alloc, HISTORY, wanted, bytes, sink),
+        Err(ReadFault::Failed) => nothing(alloc, End::SourceFailed),
+        Err(ReadFault::TooLarge) => nothing(alloc, End::TooLarge),
+        Err(ReadFault::NoMemory) => nothing(alloc, End::NoMemory),
+    }
+}
+
+/// What the words ask: whether the history's text is wanted.
+fn wish(words: &[String]) -> Option<bool>
+    ensures { result ≡ wish_of (map string_bytes words.now) }
+{
+    match words {
+        [] | [_] => Some(false),
+        [_, word] => {
+            if word.as_bytes() == b"--history".as_slice() {
+                Some(true)
+            } else {
+                None
+            }
+        }
+        _ => None,
+    }
+}
+
+fn nothing(alloc: Global, end: End) -> Played
+    ensures end { result.end ≡ end }
+    ensures history { result.history.entries ≡ [] }
+    ensures limit { result.history.limit ≡ HISTORY }
+{
+    Played {
+        end,
+        history: Journal::new(alloc, HISTORY),
+    }
+}
+
+/// Runs the script that the bytes spell, with a journal of at most `limit` entries, or writes its bad line.
+pub(crate) fn play_bytes<W: Sink>(
+    alloc: Global,
+    limit: u32,
+    wanted: bool,
+    bytes: Vec<u8>,
+    sink: &mut W,
+) -> Played
+    requires { length bytes.items ≤ 16777216 }
+    ensures runs { RunsSo result.end limit wanted bytes.items result.history.entries (W.taken sink.old) (W.taken sink.new) }
+    ensures sink_failed { result.end ≡ End.SinkFailed → Rose (W.faults sink.old) (W.faults sink.new) }
+    ensures sink_later { W.faults sink.old ≤ W.faults sink.new }
+    ensures limit { result.history.limit ≡ limit }
+{
+    match script(alloc, bytes.as_slice(), ScriptMode::Play) {
+        Ok(script) => {
+            drop(bytes);
+            lines_rise();
+            play_script(alloc, limit, wanted, &script, sink)
+        }
+        Err(ScriptFault::BadLine { line }) => Played {
+            end: write_bad_line(alloc, line, sink),
+            history: Journal::new(alloc, limit),
+        },
+        Err(ScriptFault::NoMemory) => Played {
+            end: End::NoMemory,
+            history: Journal::new(alloc, limit),
+        },
+    }
+}
+
+/// Writes that a line is bad.
+fn write_bad_line<W: Sink>(alloc: Global, line: u32, sink: &mut W) -> End
+    ensures end { TellsLine result line (W.taken sink.old) (W.taken sink.new) }
+    ensures failed { result ≡ End.SinkFailed → Rose (W.faults sink.old) (W.faults sink.new) }
+    ensures later { W.faults sink.old ≤ W.faults sink.new }
+{
+    match bad_line(alloc, line) {
+        Ok(text) => match write_text(sink, text.as_slice()) {
+            End::Finished => End::BadLine,
+            end => end,
+        },
+        Err(NoMemory) => End::NoMemory,
+    }
+}
+
+/// The text for a bad line.
+fn bad_line(alloc: Global, line: u32) -> Result<Vec<u8>, NoMemory>
+    ensures { IfOk result (λ text. text.items ≡ bad_line_text line) }
+{
+    let mut text = Vec::from_slice(alloc, b"bad script line ")?;
+    let mut buffer = Buffer::new();
+    text.extend_from_slice(buffer.format(line).as_bytes())?;
+    text.push(b'\n')?;
+    Ok(text)
+}
+
+/// Runs a script with a journal of at most `limit` entries, and writes its replies and, where it is wanted, the
+/// history's text.
+fn play_script<W: Sink>(
+    alloc: Global,
+    limit: u32,
+    wanted: bool,
+    script: &Script,
+    sink: &mut W,
+) -> Played
+    requires rise { LinesRise 0 (statements script.now) }
+    requires named { AllByRecursion (λ line. line.name < length script.now.names) script.now.lines }
+    ensures ends { ScriptEnds result.end limit wanted script.now result.history.entries (W.taken sink.old) (W.taken sink.new) }
+    ensures sink_failed { result.end ≡ End.SinkFailed → Rose (W.faults sink.old) (W.faults sink.new) }
+    ensures sink_later { W.faults sink.old ≤ W.faults sink.new }
+    ensures limit { result.history.limit ≡ limit }
+{
+    let mut server = Server::new(alloc, limit);
+    let lines = run_lines(
+        alloc,
+        &mut server,
+        script.names.as_slice(),
+        script.lines.as_slice(),
+        sink,
+    );
+    runs_are_legal();
+    cut_runs();
+    let end = finish(alloc, lines, wanted, script, server.journal(), sink);
+    Played {
+        end,
+        history: server.into_journal(),
+    }
+}
+
+/// Writes the history's text, where the lines ended well and it is wanted.
+fn finish<W: Sink>(
+    alloc: Global,
+    lines: End,
+    wanted: bool,
+    script: &Script,
+    journal: &Journal,
+    sink: &mut W,
+) -> End
+    ensures end { FinishesSo lines result wanted (W.taken sink.old) (W.taken sink.new) (text_of_history script.now.names journal.now.entries) }
+    ensures failed { result ≡ End.SinkFailed → (lines ≡ End.SinkFailed) ⊎ Rose (W.faults sink.old) (W.faults sink.new) }
+    ensures later { W.faults sink.old ≤ W.faults sink.new }
+{
+    match lines {
+        End::Finished if wanted => match history_text(alloc, script, journal) {
+            Ok(text) => write_text(sink, text.as_slice()),
+            Err(NoMemory) => End::NoMemory,
+        },
+        end => end,
+    }
+}

@@ -1,0 +1,238 @@
+//! The state of the server, and the moves that change it.
+ghost use Rattle.std.specs.Prelude.{◌≡◌, ◌<◌, ◌≤◌, ◌↔◌, List, [], ◌∷◌, length, IfOk, IfErr, OnOk, OnErr, map};
+ghost use Rattle.pj_value.specs.Rows.{HaveKinds};
+ghost use Rattle.pj_journal.specs.declared.table.Table.{Table};
+ghost use Rattle.pj_journal.specs.History.{catalog, kinds_of, IsRegular, WhatFits};
+ghost use Rattle.pj_journal.specs.Log.{empty_log, IsFull};
+ghost use Rattle.pj_legal.specs.Binding.{IsUnknown, BodyBinds};
+ghost use Rattle.pj_legal.specs.Legal.{entry_of};
+
+use crate::select::answer;
+use crate::store::{Store, append};
+use pj_journal::types::Catalog;
+use pj_journal::{Actor, ColumnDef, Entry, Journal, MoveFault, Table, What};
+use pj_legal::types::{Bound, LimitName, Refusal};
+use pj_legal::{BindFault, Query, Reply, bind};
+use pj_parse::{ThinFault, thin};
+use pj_value::{Kind, NoMemory, Rows};
+use std::alloc::Global;
+use std::marker::Model;
+
+/// Whose move it is, and of which line.
+#[derive(Clone, Copy)]
+pub(crate) struct By {
+    pub(crate) session: u32,
+    pub(crate) line: u32,
+}
+
+/// The journal, the catalog, and a store for each table in the order of their numbers. Contracts see the journal.
+#[derive(Drop)]
+pub(crate) struct Server {
+    journal: Journal,
+    tables: Catalog,
+    stores: Vec<Store>,
+}
+
+impl Model for Server {
+    ghost use Rattle.pj_journal.specs.Log.{Log};
+    ghost use Rattle.pj_server.specs.State.{Stands};
+
+    ghost Value = { Log };
+
+    ghost view = { λ s. s.journal };
+
+    ghost invariant = { λ s. Stands s.journal.entries s.tables s.stores.items };
+}
+
+impl Server {
+    ghost use Rattle.pj_server.specs.Moves.{said_by, Adds, Serves, BoundFits, Does, ChangesNothing, IsReadFault};
+
+    /// No tables, and an empty journal of at most `limit` entries.
+    pub(crate) fn new(alloc: Global, limit: u32) -> Server
+        ensures { result ≡ empty_log limit }
+    {
+        Server {
+            journal: Journal::new(alloc, limit),
+            tables: Catalog::new(alloc),
+            stores: Vec::new(alloc),
+        }
+    }
+
+    /// The journal, lent.
+    pub(crate) fn journal(&self) -> &Journal
+        ensures journal { result.now ≡ self.now }
+        ensures regular { IsRegular self.now.entries }
+        ensures few { length self.now.entries ≤ self.now.limit }
+    {
+        let _ = &self.stores;
+        let _ = self.journal.entries();
+        &self.journal
+    }
+
+    /// The journal, when nothing more is to come.
+    pub(crate) fn into_journal(self) -> Journal
+        ensures { result ≡ self }
+    {
+        let Server {
+            journal,
+            tables: _,
+            stores: _,
+        } = self;
+        journal
+    }
+
+    /// Runs the statement of a session's line, from its first move to its reply.
+    pub(crate) fn statement(&mut self, alloc: Global, by: By, body: &[u8]) -> Reply
+        ensures { Serves self.old self.new (record { line = by.line; session = by.session; body = body.now }) result }
+    {
+        match self.reserve() {
+            Ok(()) => self.first_move(alloc, by, body),
+            Err(MoveFault::Full) => Reply::Refused(Refusal::Limit(LimitName::History)),
+            Err(MoveFault::NoMemory) => Reply::Refused(Refusal::NoMemory),
+        }
+    }
+
+    /// Makes room in the journal for one move.
+    fn reserve(&mut self) -> Result<(), MoveFault>
+        ensures room { OnOk result (1 ≤ self.new.spare) }
+        ensures full { (result ≡ Err MoveFault.Full) ↔ IsFull self.old }
+        ensures same { Adds self.old self.new [] }
+    {
+        self.journal.reserve()
+    }
+
+    fn first_move(&mut self, alloc: Global, by: By, body: &[u8]) -> Reply
+        requires { 1 ≤ self.old.spare }
+        ensures { Serves self.old self.new (record { line = by.line; session = by.session; body = body.now }) result }
+    {
+        match self.read(alloc, body) {
+            Ok(bound) => self.run_bound(alloc, by, bound),
+            Err(BindFault::Refused(refusal)) => {
+                self.note(by, What::Refused);
+                Reply::Refused(refusal)
+            }
+            Err(BindFault::NoMemory) => Reply::Refused(Refusal::NoMemory),
+        }
+    }
+
+    /// What the body means for the tables that there are.
+    fn read(&self, alloc: Global, body: &[u8]) -> Result<Bound, BindFault>
+        ensures bound { IfOk result (BodyBinds (catalog self.now.entries) body.now) }
+        ensures refused { IfErr result (IsReadFault (catalog self.now.entries) body.now) }
+    {
+        match thin(alloc, body) {
+            Ok(statement) => bind(alloc, &statement, &self.tables),
+            Err(ThinFault::NotThin) => Err(BindFault::Refused(Refusal::NotBuilt)),
+            Err(ThinFault::NoMemory) => Err(BindFault::NoMemory),
+        }
+    }
+
+    fn run_bound(&mut self, alloc: Global, by: By, bound: Bound) -> Reply
+        requires room { 1 ≤ self.old.spare }
+        requires fits { BoundFits (catalog self.old.entries) bound }
+        ensures { Does self.old self.new (said_by by) bound result }
+    {
+        match bound {
+            Bound::Create(table) => match self.create(alloc, by, table) {
+                Ok(()) => Reply::Done,
+                Err(NoMemory) => Reply::Refused(Refusal::NoMemory),
+            },
+            Bound::Insert { table, rows } => self.insert(by, table, rows),
+            Bound::Select { table, query } => self.select(alloc, by, table, &query),
+        }
+    }
+
+    /// Adds a move that changes neither tables nor rows.
+    fn note(&mut self, by: By, what: What)
+        requires room { 1 ≤ self.old.spare }
+        requires nothing { ChangesNothing what }
+        requires fits { WhatFits self.old.entries what }
+        ensures { Adds self.old self.new (entry_of (said_by by) what ∷ []) }
+    {
+        self.journal.add(Entry {
+            actor: Actor::Session(by.session),
+            line: by.line,
+            what,
+        });
+    }
+
+    fn create(&mut self, alloc: Global, by: By, table: Table) -> Result<(), NoMemory>
+        requires room { 1 ≤ self.old.spare }
+        requires unknown { IsUnknown (catalog self.old.entries) table.name }
+        requires few { length (catalog self.old.entries) < 64 }
+        ensures done { OnOk result (Adds self.old self.new (entry_of (said_by by) (What.Created table) ∷ [])) }
+        ensures same { OnErr result (Adds self.old self.new []) }
+    {
+        let held = table.duplicate(alloc)?;
+        let kinds = kinds_of_columns(alloc, table.columns.as_slice())?;
+        let rows = Rows::new(alloc, kinds.as_slice())?;
+        self.stores.reserve(1)?;
+        self.tables.add(held)?;
+        self.stores.push(Store { rows, next: 1 }).unwrap();
+        self.journal.add(Entry {
+            actor: Actor::Session(by.session),
+            line: by.line,
+            what: What::Created(table),
+        });
+        Ok(())
+    }
+
+    fn insert(&mut self, by: By, table: u32, rows: Rows) -> Reply
+        requires room { 1 ≤ self.old.spare }
+        requires fits { BoundFits (catalog self.old.entries) (Bound.Insert table rows) }
+        ensures { Does self.old self.new (said_by by) (Bound.Insert table rows) result }
+    {
+        self.note(by, What::Begun { table });
+        match self.reserve() {
+            Ok(()) => match self.commit(by, table, rows) {
+                Ok(()) => Reply::Done,
+                Err(NoMemory) => Reply::Refused(Refusal::NoMemory),
+            },
+            Err(MoveFault::Full) => Reply::Refused(Refusal::Limit(LimitName::History)),
+            Err(MoveFault::NoMemory) => Reply::Refused(Refusal::NoMemory),
+        }
+    }
+
+    /// Commits the rows of an INSERT as the table's next block.
+    fn commit(&mut self, by: By, table: u32, rows: Rows) -> Result<(), NoMemory>
+        requires room { 1 ≤ self.old.spare }
+        requires fits { BoundFits (catalog self.old.entries) (Bound.Insert table rows) }
+        ensures done { OnOk result ((block : _) × Adds self.old self.new (entry_of (said_by by) (What.Inserted table block rows) ∷ [])) }
+        ensures same { OnErr result (Adds self.old self.new []) }
+    {
+        let place = table as usize;
+        let _entries = self.journal.entries();
+        let block = self.stores[place].next;
+        append(&mut self.stores, place, &rows)?;
+        self.journal.add(Entry {
+            actor: Actor::Session(by.session),
+            line: by.line,
+            what: What::Inserted { table, block, rows },
+        });
+        Ok(())
+    }
+
+    fn select(&mut self, alloc: Global, by: By, table: u32, query: &Query) -> Reply
+        requires room { 1 ≤ self.old.spare }
+        requires fits { BoundFits (catalog self.old.entries) (Bound.Select table query.now) }
+        ensures { Does self.old self.new (said_by by) (Bound.Select table query.now) result }
+    {
+        match answer(alloc, query, &self.stores[table as usize].rows) {
+            Ok(rows) => {
+                self.note(by, What::Looked { table });
+                Reply::Rows(rows)
+            }
+            Err(NoMemory) => Reply::Refused(Refusal::NoMemory),
+        }
+    }
+}
+
+fn kinds_of_columns(alloc: Global, columns: &[ColumnDef]) -> Result<Vec<Kind>, NoMemory>
+    ensures { IfOk result (λ kinds. kinds.items ≡ map (λ column. column.kind) columns.now) }
+{
+    let mut kinds = Vec::with_capacity(alloc, columns.len())?;
+    'columns: for column in columns {
+        kinds.push(column.kind)?;
+    }
+    Ok(kinds)
+}

@@ -1,0 +1,36 @@
+//! `projplay`: runs a script of SQL sessions from standard input and writes the replies to standard output.
+#![tactic(auto)]
+
+use pj_io::{ReaderSource, WriterSink, write_all};
+use pj_server::{asked_about, play};
+use std::alloc::Global;
+use std::process::ExitCode;
+use std::rt::Env;
+use std::{env, io};
+
+fn main(rt: HostRuntime) -> ExitCode {
+    let words = match words(&rt) {
+        Ok(words) => words,
+        Err(fault) if fault.kind() == io::ErrorKind::OutOfMemory => return ExitCode::from(6),
+        Err(_) => return ExitCode::from(2),
+    };
+    let mut sink = WriterSink::new(rt.stdout());
+    if let Some(about) = asked_about(words.as_slice()) {
+        return match write_all(&mut sink, about.text().as_bytes()) {
+            Ok(()) => ExitCode::from(0),
+            Err(_) => ExitCode::from(5),
+        };
+    }
+    let mut source = ReaderSource::new(rt.stdin());
+    let ran = play(rt.alloc(), words.as_slice(), &mut source, &mut sink);
+    ExitCode::from(ran.status)
+}
+
+/// The words of the command, the program's name first.
+fn words<R: Env + AllocGlobal>(rt: &R) -> io::Result<Vec<String>> {
+    let mut words = Vec::new(rt.alloc());
+    for word in env::args(rt)? {
+        words.push(word)?;
+    }
+    Ok(words)
+}
