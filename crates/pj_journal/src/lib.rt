@@ -11,3 +11,6 @@ pub use catalog::TABLES;
 pub use entry::{Actor, Entry, What};
 pub use journal::{Journal, MoveFault};
 pub use table::{ColumnDef, Table};
+
+#[cfg(test)]
+mod tests;

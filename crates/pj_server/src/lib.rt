@@ -11,3 +11,6 @@ mod telling;
 
 pub use playing::{Ran, play};
 pub use telling::{About, asked_about};
+
+#[cfg(test)]
+mod tests;
