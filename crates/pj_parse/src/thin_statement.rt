@@ -21,6 +21,7 @@ pub enum ThinFault {
     /// The body is no thin statement.
     #[error("not a thin statement")]
     NotThin,
+    /// There was no memory for the statement. The body may be thin or not.
     #[error("no memory")]
     NoMemory,
 }
@@ -203,7 +204,8 @@ fn statement(alloc: Global, body: &[u8]) -> Result<Statement, ThinFault>
     }
 }
 
-/// The thin statement that the body is. It takes time linear in the body, and memory for the statement alone.
+/// The thin statement that the body is, as docs/GRAMMAR.md has them under "Statements". It takes time linear in the body,
+/// and memory for the statement alone: tokens are read one at a time.
 pub fn thin(alloc: Global, body: &[u8]) -> Result<Statement, ThinFault>
     ensures found { IfOk result (λ st. IsThin body.now st) }
     ensures only { result ≡ Err faults.NotThin → (st : Statement) → IsThin body.now st → ⊥ }

@@ -83,7 +83,8 @@ pub fn play<R: Source, W: Sink>(
     ensures starved { result.status ≡ 6 → EndsSo ends.NoMemory (wish_of (map string_bytes words.now)) (R.left source.old) (R.left source.new)
         result.history.entries (W.taken sink.old) (W.taken sink.new) }
 
-    // Nothing was run and nothing written.
+    // Nothing was run, and but for a bad line nothing was written.
+    ensures empty { (result.status ≡ 2) ⊎ (result.status ≡ 3) ⊎ (result.status ≡ 4) ⊎ (result.status ≡ 7) → result.history.entries ≡ [] }
     ensures quiet { (result.status ≡ 2) ⊎ (result.status ≡ 4) ⊎ (result.status ≡ 7) → DoesNothing result.history.entries (W.taken sink.old) (W.taken sink.new) }
 
     // A script of the grammar is run to its end, unless there is no memory or the source or the sink fails.

@@ -1,4 +1,6 @@
 //! Runs of whole scripts over sources and sinks in memory: the worked examples, small journals, and failing calls.
+ghost use Rattle.std.specs.Prelude.{◌≤◌};
+
 use super::*;
 use crate::end::End;
 use crate::playing::play_bytes;
