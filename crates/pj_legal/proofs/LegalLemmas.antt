@@ -1,16 +1,25 @@
 -- Moves by their lines, and the forms of a statement.
-use Rattle.std.proofs.Common.{◌≡◌, ℕ, ◌<◌, ◌≤◌, ◌++◌, length, Bool, not, List, [], ◌∷◌, sym, refl, ap, ◌∙◌, subst, inl, inr, arith, append-nil}
-use Rattle.std.specs.Prelude.{◌==◌}
+use Rattle.std.proofs.Common.{◌≡◌, ℕ, ◌+◌, ◌<◌, ◌≤◌, ◌++◌, length, Bool, not, List, [], ◌∷◌, sym, refl, ap, ◌∙◌, subst, inl, inr, arith, append-nil}
+use Rattle.std.specs.Prelude.{◌==◌, nat_le}
 use Rattle.std.specs.List.{AllByRecursion}
-use Rattle.std.proofs.lemmas.Bool.{eq-eqb, ne_eqb, cond-true, cond-false}
+use Rattle.std.proofs.lemmas.Bool.{eq-eqb, ne_eqb, le-leb, lt-leb, cond-true, cond-false}
 use Rattle.std.proofs.lemmas.List.Elements.{filter-append}
 use Rattle.std.proofs.lemmas.List.Sums.{take_while-cons}
+use Rattle.pj_parse.specs.declared.types.Statement.{Statement}
+use Rattle.pj_parse.specs.declared.types.Statement.TheVariants as statements
 use Rattle.pj_journal.specs.declared.entry.Entry.{Entry}
 use Rattle.pj_journal.specs.declared.entry.What.{What}
+use Rattle.pj_journal.specs.declared.table.Table.{Table}
+use Rattle.pj_journal.specs.History.{catalog}
 use Rattle.pj_legal.specs.declared.reply.Reply.{Reply}
 use Rattle.pj_legal.specs.declared.types.Bound.{Bound}
 use Rattle.pj_legal.specs.declared.types.Bound.TheVariants as bounds
-use Rattle.pj_legal.specs.Legal.{Said, entry_of, BoundForm, IsFirstMove, IsBegun, StopsAfter, EndsEarly, Form, added_by, place_of, NeverFall}
+use Rattle.pj_legal.specs.declared.types.LimitName.TheVariants.{History}
+use Rattle.pj_legal.specs.declared.types.Refusal.{Refusal}
+use Rattle.pj_legal.specs.declared.types.Refusal.TheVariants as refusals
+use Rattle.pj_legal.specs.declared.reply.Reply.TheVariants as replies
+use Rattle.pj_legal.specs.Binding.{IsRefusal, BodyIsRefused}
+use Rattle.pj_legal.specs.Legal.{Said, entry_of, BoundForm, IsFirstMove, IsBegun, StopsAfter, EndsEarly, Form, added_by, place_of, left_by, NeverFall}
 
 -- each entry is on the line
 abbrev pub AreOn : ℕ → List Entry → Type 0
@@ -128,6 +137,29 @@ pub place_of-some : (line : ℕ) (xs : List Entry) (y : Entry) (ys : List Entry)
 place_of-some line xs y ys all on =
     place_of-off line xs (y ∷ ys) all ∙ ap (λ es. xs ++ es) (place_of-on line y ys on) ∙ append-nil xs
 
+-- a line leaves the moves up to it
+pub left_by-up_to : (line : ℕ) (es : List Entry) → AreUpTo line es → left_by line es ≡ es
+left_by-up_to line [] all = refl
+left_by-up_to line (e ∷ es) all =
+    cond-true (nat_le e.line line) (e ∷ left_by line es) (left_by line es) (le-leb e.line line all.0) ∙ ap (λ xs. e ∷ xs) (left_by-up_to line es all.1)
+
+-- and none of those behind it
+pub left_by-behind : (line : ℕ) (es : List Entry) → AreBehind line es → left_by line es ≡ []
+left_by-behind line [] all = refl
+left_by-behind line (e ∷ es) all =
+    cond-false (nat_le e.line line) (e ∷ left_by line es) (left_by line es) (lt-leb e.line line all.0) ∙ left_by-behind line es all.1
+
+-- so of moves up to a line, and more behind it, the line left the first
+pub left_by-append : (line : ℕ) (xs ys : List Entry) → AreUpTo line xs → AreBehind line ys → left_by line (xs ++ ys) ≡ xs
+left_by-append line xs ys upto behind =
+    filter-append test xs ys
+    ∙ ap (λ es. left_by line xs ++ es) (left_by-behind line ys behind)
+    ∙ append-nil (left_by line xs)
+    ∙ left_by-up_to line xs upto
+  where
+    test : Entry → Bool
+    test entry = nat_le entry.line line
+
 -- the moves of a bound statement are its own
 pub AreOf-bound : (place : List Entry) (said : Said) (bound : Bound) (added : List Entry) (reply : Reply) → BoundForm place said bound added reply → AreOf said added
 AreOf-bound place said (bounds.Create table) added reply form = subst (AreOf said) (sym form.0) (refl, tt)
@@ -166,3 +198,30 @@ pub Form-later : (limit : ℕ) (place h : List Entry) (said : Said) (reply : Rep
 Form-later limit place h said reply grew within (inl refused) = let e = refused.2 in absurd (cc)
 Form-later limit place h said reply grew within (inr (inl bound)) = absurd (BoundForm-moves place said bound.0 reply bound.2)
 Form-later limit place h said reply grew within (inr (inr early)) = inr (inr (EndsEarly-later limit place h said reply grew within early))
+
+-- no statement is refused for a full journal by its tables
+IsRefusal-limit : (tables : List Table) (statement : Statement) → IsRefusal tables statement (refusals.Limit History) → ⊥
+IsRefusal-limit tables (statements.Create name columns key) is = is
+IsRefusal-limit tables (statements.Insert name rows) is = is
+IsRefusal-limit tables (statements.Select select) is = is
+
+-- nor is a body
+BodyIsRefused-limit : (tables : List Table) (body : List ℕ) (refusal : Refusal) → refusal ≡ refusals.Limit History → BodyIsRefused tables body refusal → ⊥
+BodyIsRefused-limit tables body refusal same (inl plain) = let other = plain.1 in cc
+BodyIsRefused-limit tables body refusal same (inr one) = IsRefusal-limit tables one.0 (subst (IsRefusal tables one.0) same one.2)
+
+-- nor does a bound statement get that reply with its moves
+BoundForm-limit : (place : List Entry) (said : Said) (bound : Bound) (added : List Entry) (reply : Reply) → BoundForm place said bound added reply
+    → reply ≡ replies.Refused (refusals.Limit History) → ⊥
+BoundForm-limit place said (bounds.Create table) added reply form same = let other = form.1 in cc
+BoundForm-limit place said (bounds.Insert table rows) added reply form same = let other = form.2 in cc
+BoundForm-limit place said (bounds.Select table query) added reply form same = let other = form.3 in cc
+
+-- a statement refused for a full journal fills it with its moves, if any, from its place
+pub Form-full : (limit : ℕ) (place : List Entry) (said : Said) (added : List Entry) (reply : Reply) → Form limit place said added reply
+    → reply ≡ replies.Refused (refusals.Limit History) → length place + length added ≡ limit
+Form-full limit place said added reply (inl refused) same =
+    let other = refused.3 in absurd (BodyIsRefused-limit (catalog place) said.body refused.0 (cc) refused.1)
+Form-full limit place said added reply (inr (inl bound)) same = absurd (BoundForm-limit place said bound.0 added reply bound.2 same)
+Form-full limit place said added reply (inr (inr (inl early))) same = let other = early.0 in absurd (cc)
+Form-full limit place said added reply (inr (inr (inr early))) same = early.2

@@ -7,9 +7,9 @@ use Rattle.pj_parse.specs.declared.types.Script.{Script}
 use Rattle.pj_journal.specs.declared.entry.Entry.{Entry}
 use Rattle.pj_journal.specs.History.{IsRegular}
 use Rattle.pj_legal.specs.declared.reply.Reply.{Reply}
-use Rattle.pj_legal.specs.Legal.{Said, statements, statement_of, Form, IsLegal, added_by, place_of, IsOwned, NeverFall}
+use Rattle.pj_legal.specs.Legal.{Said, statements, statement_of, Form, IsLegal, added_by, place_of, left_by, LeavesFull, IsOwned, NeverFall}
 use Rattle.pj_legal.specs.Run.{Run, LinesRise, cut}
-use Rattle.pj_legal.proofs.LegalLemmas.{AreOn, AreOff, AreUpTo, AreBehind, AreOf, AreOff-up_to, AreOff-behind, AreOff-append, AreOn-of, AreUpTo-append, AreBehind-append, NeverFall-append, added_by-middle, place_of-none, place_of-some, AreOf-form, Form-later}
+use Rattle.pj_legal.proofs.LegalLemmas.{AreOn, AreOff, AreUpTo, AreBehind, AreOf, AreOff-up_to, AreOff-behind, AreOff-append, AreOn-of, AreUpTo-append, AreBehind-append, NeverFall-append, added_by-middle, place_of-none, place_of-some, left_by-append, AreOf-form, Form-later, Form-full}
 
 -- the statement got its reply by the moves that belong to its line, from their place
 abbrev pub IsAnswered : ℕ → List Entry → Said → Reply → Type 0
@@ -23,6 +23,7 @@ pub record HasAdded (limit low : ℕ) (place : List Entry) (saids : List Said) (
   pub order : NeverFall low new
   pub behind : AreBehind low new
   pub answered : AllZip (IsAnswered limit h) saids replies
+  pub full : AllZip (LeavesFull limit h) saids replies
 
 -- a statement's moves are owned by the first of the statements
 pub IsOwned-first : (said : Said) (saids : List Said) (es : List Entry) → AreOf said es → AllByRecursion (IsOwned (said ∷ saids)) es
@@ -71,11 +72,24 @@ first_is_answered limit low place said (e ∷ es) new h reply rises below behind
     moves : added_by said.line h ≡ e ∷ es
     moves = ap (added_by said.line) grown ∙ added_by-middle said.line place (e ∷ es) new off on (AreOff-behind said.line new behind)
 
+-- and left the journal full where it was refused for that
+first_leaves_full : (limit low : ℕ) (place : List Entry) (said : Said) (added new h : List Entry) (reply : Reply)
+    → low < said.line → AreUpTo low place → AreBehind said.line new → h ≡ (place ++ added) ++ new
+    → Form limit place said added reply → LeavesFull limit h said reply
+first_leaves_full limit low place said added new h reply rises below behind grown form same =
+    ap (λ es. length (left_by said.line es)) grown
+    ∙ ap length (left_by-append said.line (place ++ added) new upto behind)
+    ∙ length-append place added
+    ∙ Form-full limit place said added reply form same
+  where
+    upto : AreUpTo said.line (place ++ added)
+    upto = AreUpTo-append low said.line place added (omega (arith, rises)) below (AreOn-of said added (AreOf-form limit place said added reply form))
+
 -- a run adds moves of its statements, line by line
 pub HasAdded-run : (limit low : ℕ) (place : List Entry) (saids : List Said) (replies : List Reply) (h : List Entry)
     → AreUpTo low place → LinesRise low saids → length h ≤ limit → Run limit place saids replies h → HasAdded limit low place saids replies h
 HasAdded-run limit low place [] [] h below rise within run =
-    record { new = []; grown = run ∙ sym (append-nil place); owned = tt; order = tt; behind = tt; answered = tt }
+    record { new = []; grown = run ∙ sym (append-nil place); owned = tt; order = tt; behind = tt; answered = tt; full = tt }
 HasAdded-run limit low place [] (reply ∷ more) h below rise within run = absurd run
 HasAdded-run limit low place (said ∷ saids) [] h below rise within run = absurd run
 HasAdded-run limit low place (said ∷ saids) (reply ∷ more) h below rise within run =
@@ -95,6 +109,7 @@ HasAdded-run limit low place (said ∷ saids) (reply ∷ more) h below rise with
       order = NeverFall-append low said.line run.0 rest.new (omega (arith, rise.0)) on rest.order;
       behind = AreBehind-append low said.line run.0 rest.new rise.0 on rest.behind;
       answered = (first_is_answered limit low place said run.0 rest.new h reply rise.0 below rest.behind rest.grown within run.1, rest.answered);
+      full = (first_leaves_full limit low place said run.0 rest.new h reply rise.0 below rest.behind rest.grown run.1, rest.full);
     }
 
 -- a run of a script's statements from nothing on
@@ -110,6 +125,7 @@ IsLegal-run limit script replies h rise run regular within =
       owned = subst (AllByRecursion (IsOwned (statements script))) (sym added.grown) added.owned;
       order = subst (NeverFall 0) (sym added.grown) added.order;
       answered = added.answered;
+      full = added.full;
     }
 
 -- the lines of the first statements rise too

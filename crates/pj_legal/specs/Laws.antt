@@ -58,9 +58,9 @@ BoundOrRefused =
     (tables : List Table) (statement : Statement) (bound : Bound) (refusal : Refusal) → HasUniqueNames tables
     → IsBound tables statement bound → IsRefusal tables statement refusal → ⊥
 
--- a number has one text in decimal
-abbrev pub NumberHasOneText : Type 0
-NumberHasOneText = (m n : ℕ) → m < 2 ^ 64 → n < 2 ^ 64 → decimal m ≡ decimal n → m ≡ n
+-- numbers of one text in decimal are one
+abbrev pub TextsTellNumbers : Type 0
+TextsTellNumbers = (m n : ℕ) → m < 2 ^ 64 → n < 2 ^ 64 → decimal m ≡ decimal n → m ≡ n
 
 -- no line feed in the text
 abbrev pub IsOneLine : List ℕ → Type 0

@@ -1,5 +1,5 @@
 -- Legal histories (docs/MODEL.md, "Legal histories").
-use Rattle.std.specs.Prelude.{◌≡◌, ℕ, ◌+◌, ◌≤◌, ◌⊎◌, List, [], ◌∷◌, length, map, filter, take_while, Contains, not, ◌==◌}
+use Rattle.std.specs.Prelude.{◌≡◌, ℕ, ◌+◌, ◌≤◌, ◌⊎◌, List, [], ◌∷◌, length, map, filter, take_while, Contains, not, ◌==◌, nat_le}
 use Rattle.std.specs.List.{AllByRecursion, AllZip}
 use Rattle.pj_value.specs.Rows.{KindedRows}
 use Rattle.pj_parse.specs.declared.types.Act.{Act}
@@ -90,6 +90,14 @@ added_by line h = filter (λ entry. entry.line == line) h
 abbrev pub place_of : ℕ → List Entry → List Entry
 place_of line h = take_while (λ entry. not (entry.line == line)) h
 
+-- the moves that belong to a line or to one before it: the history that the statement of the line left
+abbrev pub left_by : ℕ → List Entry → List Entry
+left_by line h = filter (λ entry. nat_le entry.line line) h
+
+-- a statement that was refused for a full journal left it full
+abbrev pub LeavesFull : ℕ → List Entry → Said → Reply → Type 0
+LeavesFull limit h said reply = reply ≡ replies.Refused (refusals.Limit History) → length (left_by said.line h) ≡ limit
+
 -- the entry is a move of one of the statements
 abbrev pub IsOwned : List Said → Entry → Type 0
 IsOwned saids entry = (said : Said) × Contains saids said × (entry ≡ entry_of said entry.what)
@@ -106,3 +114,4 @@ pub record IsLegal (limit : ℕ) (script : Script) (h : List Entry) (said : List
   pub owned : AllByRecursion (IsOwned (statements script)) h
   pub order : NeverFall 0 h
   pub answered : AllZip (λ s reply. Form limit (place_of s.line h) s (added_by s.line h) reply) (statements script) said
+  pub full : AllZip (LeavesFull limit h) (statements script) said

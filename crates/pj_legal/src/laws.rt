@@ -1,5 +1,5 @@
 //! Laws over the definitions of this crate. Each function does nothing: its clause is the law.
-ghost use Rattle.pj_legal.specs.Laws.{CutRunsAreLegal, RunGoesOn, RunIsAsLong, TextsGoOn, NamesAreUnique, BoundOrRefused, NumberHasOneText, RepliesAreToldApart, AnnouncementsAreToldApart};
+ghost use Rattle.pj_legal.specs.Laws.{CutRunsAreLegal, RunGoesOn, RunIsAsLong, TextsGoOn, NamesAreUnique, BoundOrRefused, TextsTellNumbers, RepliesAreToldApart, AnnouncementsAreToldApart};
 ghost use Rattle.pj_legal.specs.Run.{RunsAreLegal};
 
 /// What one thread leaves that runs a script's statements in their order is a legal history.
@@ -40,8 +40,8 @@ pub fn bound_or_refused()
 {}
 
 /// A number of 64 bits has one text in decimal.
-pub fn number_has_one_text()
-    ensures { NumberHasOneText }
+pub fn texts_tell_numbers()
+    ensures { TextsTellNumbers }
 {}
 
 /// A reader of replies can tell them apart: the line and the session's name are read from a text that begins with a

@@ -13,8 +13,8 @@ pub use binding::{BindFault, bind};
 pub use history::history_text;
 pub use laws::{
     announcements_are_told_apart, bound_or_refused, cut_runs, names_are_unique,
-    number_has_one_text, replies_are_told_apart, run_goes_on, run_is_as_long, runs_are_legal,
-    texts_go_on,
+    replies_are_told_apart, run_goes_on, run_is_as_long, runs_are_legal, texts_go_on,
+    texts_tell_numbers,
 };
 pub use query::{AggCall, Item, Query};
 pub use reply::{Reply, reply_text};

@@ -1,5 +1,5 @@
 use Rattle.std.proofs.lemmas.Fmt.{decimal_injective}
-use Rattle.pj_legal.proofs.laws.number_has_one_text.Goals as goal
+use Rattle.pj_legal.proofs.laws.texts_tell_numbers.Goals as goal
 
 pub returns : goal.returns
 returns c = decimal_injective
