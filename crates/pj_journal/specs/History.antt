@@ -1,5 +1,5 @@
 -- What a history leaves: the catalog, the blocks and rows of a table, the next number (docs/MODEL.md, "Histories").
-use Rattle.std.specs.Prelude.{◌≡◌, ◌<◌, ℕ, ◌+◌, List, [], ◌∷◌, ◌++◌, length, map, fold, ◌==◌, if◌then◌else◌, Option, Some, slice_get, Contains}
+use Rattle.std.specs.Prelude.{◌≡◌, ◌<◌, ℕ, ◌+◌, List, [], ◌∷◌, ◌++◌, length, map, fold, ◌==◌, if◌then◌else◌, Some, slice_get, Contains}
 use Rattle.std.specs.List.{flat_map}
 use Rattle.pj_value.specs.declared.value.Kind.{Kind}
 use Rattle.pj_value.specs.declared.value.Value.{Value}

@@ -1,5 +1,5 @@
 -- A journal as contracts see it (docs/MODEL.md, "Histories").
-use Rattle.std.specs.Prelude.{◌≡◌, ℕ, ◌-◌, List, [], length, min}
+use Rattle.std.specs.Prelude.{◌≡◌, ℕ, List, [], length}
 use Rattle.pj_journal.specs.declared.entry.Entry.{Entry}
 
 -- the entries, how many there may be, and for how many more room was made

@@ -1,12 +1,14 @@
 -- Moves by their lines, and the forms of a statement.
-use Rattle.std.proofs.Common.{◌≡◌, ℕ, ◌+◌, ◌<◌, ◌≤◌, ◌++◌, length, Bool, not, List, [], ◌∷◌, sym, refl, ap, ◌∙◌, subst, inl, inr, arith, append-nil}
+use Rattle.std.proofs.Common.{◌≡◌, ℕ, ◌+◌, ◌<◌, ◌≤◌, ◌++◌, ◌⊎◌, length, Bool, not, List, [], ◌∷◌, sym, refl, ap, ◌∙◌, subst, inl, inr, arith, append-nil}
 use Rattle.std.specs.Prelude.{◌==◌, nat_le}
-use Rattle.std.specs.List.{AllByRecursion}
+use Rattle.std.specs.List.{AllByRecursion, AllZip}
 use Rattle.std.proofs.lemmas.Bool.{eq-eqb, ne_eqb, le-leb, lt-leb, cond-true, cond-false}
+use Rattle.std.proofs.lemmas.Bool.Decides.{nat_tests}
 use Rattle.std.proofs.lemmas.List.Elements.{filter-append}
 use Rattle.std.proofs.lemmas.List.Sums.{take_while-cons}
+use Rattle.pj_parse.specs.declared.types.Script.{Script}
 use Rattle.pj_parse.specs.declared.types.Statement.{Statement}
-use Rattle.pj_parse.specs.declared.types.Statement.TheVariants as statements
+use Rattle.pj_parse.specs.declared.types.Statement.TheVariants as kinds
 use Rattle.pj_journal.specs.declared.entry.Entry.{Entry}
 use Rattle.pj_journal.specs.declared.entry.What.{What}
 use Rattle.pj_journal.specs.declared.table.Table.{Table}
@@ -19,7 +21,8 @@ use Rattle.pj_legal.specs.declared.types.Refusal.{Refusal}
 use Rattle.pj_legal.specs.declared.types.Refusal.TheVariants as refusals
 use Rattle.pj_legal.specs.declared.reply.Reply.TheVariants as replies
 use Rattle.pj_legal.specs.Binding.{IsRefusal, BodyIsRefused}
-use Rattle.pj_legal.specs.Legal.{Said, entry_of, BoundForm, IsFirstMove, IsBegun, StopsAfter, EndsEarly, Form, added_by, place_of, left_by, NeverFall}
+use Rattle.pj_legal.specs.Legal.{Said, entry_of, BoundForm, IsFirstMove, IsBegun, StopsAfter, EndsEarly, Form, added_by, place_of, left_by, statements, NeverFall, IsLegal}
+use Rattle.pj_legal.specs.Laws.{found_by, IsRefusedWhereFull}
 
 -- each entry is on the line
 abbrev pub AreOn : ℕ → List Entry → Type 0
@@ -201,9 +204,9 @@ Form-later limit place h said reply grew within (inr (inr early)) = inr (inr (En
 
 -- no statement is refused for a full journal by its tables
 IsRefusal-limit : (tables : List Table) (statement : Statement) → IsRefusal tables statement (refusals.Limit History) → ⊥
-IsRefusal-limit tables (statements.Create name columns key) is = is
-IsRefusal-limit tables (statements.Insert name rows) is = is
-IsRefusal-limit tables (statements.Select select) is = is
+IsRefusal-limit tables (kinds.Create name columns key) is = is
+IsRefusal-limit tables (kinds.Insert name rows) is = is
+IsRefusal-limit tables (kinds.Select select) is = is
 
 -- nor is a body
 BodyIsRefused-limit : (tables : List Table) (body : List ℕ) (refusal : Refusal) → refusal ≡ refusals.Limit History → BodyIsRefused tables body refusal → ⊥
@@ -225,3 +228,32 @@ Form-full limit place said added reply (inl refused) same =
 Form-full limit place said added reply (inr (inl bound)) same = absurd (BoundForm-limit place said bound.0 added reply bound.2 same)
 Form-full limit place said added reply (inr (inr (inl early))) same = let other = early.0 in absurd (cc)
 Form-full limit place said added reply (inr (inr (inr early))) same = early.2
+
+-- a history has room for what a statement found and for its moves
+length-found_by : (line : ℕ) (h : List Entry) → length (found_by line h) + length (added_by line h) ≤ length h
+length-found_by line [] = omega arith
+length-found_by line (e ∷ es) = let rest = length-found_by line es in grind (arith, nat_tests)
+
+-- a statement without a move was refused for a full journal, or for want of memory
+Form-none : (limit : ℕ) (place : List Entry) (said : Said) (added : List Entry) (reply : Reply) → Form limit place said added reply → length added ≡ 0
+    → (reply ≡ replies.Refused (refusals.Limit History)) ⊎ (reply ≡ replies.Refused refusals.NoMemory)
+Form-none limit place said [] reply (inl refused) none = let e = refused.2 in absurd (cc)
+Form-none limit place said [] reply (inr (inl bound)) none = absurd (BoundForm-moves place said bound.0 reply bound.2)
+Form-none limit place said [] reply (inr (inr (inl early))) none = inr early.0
+Form-none limit place said [] reply (inr (inr (inr early))) none = inl early.0
+Form-none limit place said (e ∷ es) reply form none = absurd (omega (arith, none))
+
+-- so a full journal refuses these statements
+AllZip-full : (limit : ℕ) (h : List Entry) (saids : List Said) (said : List Reply) → length h ≤ limit
+    → AllZip (λ s reply. Form limit (place_of s.line h) s (added_by s.line h) reply) saids said → AllZip (IsRefusedWhereFull limit h) saids said
+AllZip-full limit h [] [] within all = tt
+AllZip-full limit h [] (reply ∷ more) within all = absurd all
+AllZip-full limit h (s ∷ saids) [] within all = absurd all
+AllZip-full limit h (s ∷ saids) (reply ∷ more) within all = (
+  (λ full. Form-none limit (place_of s.line h) s (added_by s.line h) reply all.0 (omega (arith, full, within, length-found_by s.line h))),
+  AllZip-full limit h saids more within all.1,
+)
+
+-- and those of a legal history
+pub IsLegal-full : (limit : ℕ) (script : Script) (h : List Entry) (said : List Reply) → IsLegal limit script h said → AllZip (IsRefusedWhereFull limit h) (statements script) said
+IsLegal-full limit script h said legal = AllZip-full limit h (statements script) said legal.within legal.answered

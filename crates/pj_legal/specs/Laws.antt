@@ -1,5 +1,6 @@
 -- Laws over the definitions of this crate, each shown by a function of its own (src/laws.rt).
-use Rattle.std.specs.Prelude.{◌≡◌, ℕ, ◌≤◌, List, [], ◌∷◌, ◌++◌, length, take, Some, slice_get, ◌<◌, ◌^◌, Contains}
+use Rattle.std.specs.Prelude.{◌≡◌, ℕ, ◌≤◌, List, [], ◌∷◌, ◌++◌, length, take, filter, Some, slice_get, ◌<◌, ◌^◌, ◌⊎◌, Contains, nat_lt}
+use Rattle.std.specs.List.{AllZip}
 use Rattle.std.specs.Fmt.{decimal}
 use Rattle.pj_parse.specs.declared.types.Script.{Script}
 use Rattle.pj_parse.specs.declared.types.Statement.{Statement}
@@ -10,8 +11,9 @@ use Rattle.pj_journal.specs.History.{IsRegular, catalog}
 use Rattle.pj_legal.specs.declared.reply.Reply.{Reply}
 use Rattle.pj_legal.specs.declared.reply.Reply.TheVariants as replies
 use Rattle.pj_legal.specs.declared.types.Bound.{Bound}
+use Rattle.pj_legal.specs.declared.types.LimitName.TheVariants.{History}
 use Rattle.pj_legal.specs.declared.types.Refusal.{Refusal}
-use Rattle.pj_legal.specs.declared.types.Refusal.TheVariants.{UnknownTable, TableExists}
+use Rattle.pj_legal.specs.declared.types.Refusal.TheVariants.{Limit, UnknownTable, TableExists, NoMemory}
 use Rattle.pj_legal.specs.Legal.{Said, statements, Form, IsLegal}
 use Rattle.pj_legal.specs.Run.{Run, LinesRise, cut}
 use Rattle.pj_legal.specs.Texts.{texts_of, reply_text, announced, name_at}
@@ -22,6 +24,21 @@ abbrev pub CutRunsAreLegal : Type 0
 CutRunsAreLegal =
     (limit n : ℕ) (script : Script) (replies : List Reply) (h : List Entry) → LinesRise 0 (statements script)
     → Run limit [] (take n (statements script)) replies h → IsRegular h → length h ≤ limit → IsLegal limit (cut n script) h replies
+
+-- the moves of the lines before this one: the history that the statement of the line found
+abbrev pub found_by : ℕ → List Entry → List Entry
+found_by line h = filter (λ entry. nat_lt entry.line line) h
+
+-- a statement that found the journal full was refused for that, or for want of memory
+abbrev pub IsRefusedWhereFull : ℕ → List Entry → Said → Reply → Type 0
+IsRefusedWhereFull limit h said reply =
+    length (found_by said.line h) ≡ limit → (reply ≡ replies.Refused (Limit History)) ⊎ (reply ≡ replies.Refused NoMemory)
+
+-- in a legal history a full journal refuses each statement
+abbrev pub FullRefusesAll : Type 0
+FullRefusesAll =
+    (limit : ℕ) (script : Script) (h : List Entry) (replies : List Reply) → IsLegal limit script h replies
+    → AllZip (IsRefusedWhereFull limit h) (statements script) replies
 
 -- a run goes on by one more statement, from where it ended
 abbrev pub RunGoesOn : Type 0

@@ -1,5 +1,5 @@
 //! Laws over the definitions of this crate. Each function does nothing: its clause is the law.
-ghost use Rattle.pj_legal.specs.Laws.{CutRunsAreLegal, RunGoesOn, RunIsAsLong, TextsGoOn, NamesAreUnique, BoundOrRefused, TextsTellNumbers, RepliesAreToldApart, AnnouncementsAreToldApart};
+ghost use Rattle.pj_legal.specs.Laws.{CutRunsAreLegal, FullRefusesAll, RunGoesOn, RunIsAsLong, TextsGoOn, NamesAreUnique, BoundOrRefused, TextsTellNumbers, RepliesAreToldApart, AnnouncementsAreToldApart};
 ghost use Rattle.pj_legal.specs.Run.{RunsAreLegal};
 
 /// What one thread leaves that runs a script's statements in their order is a legal history.
@@ -11,6 +11,12 @@ pub fn runs_are_legal()
 /// that statement.
 pub fn cut_runs()
     ensures { CutRunsAreLegal }
+{}
+
+/// In a legal history a statement that found the journal full, by the moves of the lines before it, was refused for that
+/// or for want of memory.
+pub fn full_refuses_all()
+    ensures { FullRefusesAll }
 {}
 
 /// A run goes on by one more statement.
