@@ -9,7 +9,6 @@ ghost use Rattle.pj_io.specs.Memory.{is_due, after_call};
 use crate::sink::{GiveFault, Sink};
 use crate::source::{Failed, Source};
 use crate::sure::{SureSink, SureSource};
-use std::alloc::Global;
 use std::marker::Model;
 
 // Which calls of an object fail, by their numbers from 1, and how many were made and failed.
@@ -135,15 +134,15 @@ impl Model for MemorySink {
 
 impl MemorySink {
     /// A sink that took nothing yet. A call moves `piece` bytes at most, and `fail` lists the calls that fail, by their numbers from 1.
-    /// Each call looks through the whole list.
-    pub fn new(alloc: Global, piece: usize, fail: Vec<u64>) -> MemorySink
+    /// Each call looks through the whole list. The sink's bytes take the memory of that list's allocator.
+    pub fn new(piece: usize, fail: Vec<u64>) -> MemorySink
         requires { 1 ≤ piece }
         ensures taken { result.taken ≡ [] }
         ensures piece { result.piece ≡ piece }
         ensures calls { result.calls ≡ record { fail = fail.items; made = 0; faults = 0 } }
     {
         MemorySink {
-            sink: SureSink::new(alloc),
+            sink: SureSink::new(*fail.allocator()),
             piece,
             calls: Schedule::new(fail),
         }

@@ -17,7 +17,7 @@ fn pieces_of_any_size_move_all_the_bytes(rt: HostRuntime) -> Result<(), Fail> {
         assert_eq!(rt; read.as_slice(), bytes.as_slice(), "pieces of {piece}");
 
         let never = Vec::new(rt.alloc());
-        let mut sink = MemorySink::new(rt.alloc(), piece, never);
+        let mut sink = MemorySink::new(piece, never);
         write_all(&mut sink, &bytes)?;
         assert_eq!(rt; sink.bytes(), bytes.as_slice(), "pieces of {piece}");
     }
@@ -59,7 +59,7 @@ fn a_call_fails_where_its_number_is_listed(rt: HostRuntime) -> Result<(), Fail> 
         }
 
         let fail = vec![in rt.alloc(); call]?;
-        let mut sink = MemorySink::new(rt.alloc(), 7, fail);
+        let mut sink = MemorySink::new(7, fail);
         let taken = match write_all(&mut sink, &bytes) {
             Ok(()) => 20,
             Err(_) => 7 * (call as usize - 1),

@@ -1,5 +1,5 @@
 //! The journal: the one history that is kept, with room that is made before an entry is added.
-ghost use Rattle.std.specs.Prelude.{◌≡◌, ◌+◌, ◌^◌, ◌≤◌, ◌↔◌, [], ◌∷◌, ◌++◌, ◌<◌, length, OnOk};
+ghost use Rattle.std.specs.Prelude.{◌≡◌, ◌+◌, ◌^◌, ◌≤◌, ◌↔◌, [], ◌∷◌, ◌++◌, ◌<◌, length, OnOk, OnErr};
 ghost use Rattle.pj_journal.specs.Log.{Log, IsFull, empty_log};
 ghost use Rattle.pj_journal.specs.declared.journal.MoveFault.TheVariants as faults;
 
@@ -75,6 +75,7 @@ impl Journal {
         ensures full { (result ≡ Err MoveFault.Full) ↔ IsFull self.old }
         ensures entries { self.new.entries ≡ self.old.entries }
         ensures limit { self.new.limit ≡ self.old.limit }
+        ensures same { OnErr result (self.new ≡ self.old) }
     {
         if self.entries.len() >= self.limit as usize {
             return Err(MoveFault::Full);

@@ -27,7 +27,15 @@ item_value rows (Agg call) = agg call.kind rows
 abbrev pub item_kind : Item → Kind
 item_kind (Agg call) = agg_kind call.kind
 
--- the answer of a query that aggregates without groups: one line over all rows, also where there is none
+-- the groups of a query's rows: a query that aggregates without GROUP BY has one, of all rows, also where there is none
+abbrev pub groups_of : Query → List (List Value) → List (List (List Value))
+groups_of query rows = rows ∷ []
+
+-- what a query answers for a group
+abbrev pub line_of : Query → List (List Value) → List Value
+line_of query group = map (item_value group) query.items
+
+-- the answer of a query: a line for each group
 pub record Answers (query : Query) (rows : List (List Value)) (out : KindedRows) : Type 0 where
   pub kinds : out.kinds ≡ map item_kind query.items
-  pub lines : out.rows ≡ map (item_value rows) query.items ∷ []
+  pub lines : out.rows ≡ map (line_of query) (groups_of query rows)

@@ -12,12 +12,16 @@ use pj_journal::{ColumnDef, TABLES, Table};
 use pj_parse::types::{Listed, Statement, TreeColumn, TreeItem, TreeSelect};
 use pj_value::{Kind, List, NoMemory, PushFault, Rows, Text, Value};
 use std::alloc::{AllocError, AllocFailed, Global};
+use thiserror::Error;
 
 /// Why a statement doesn't bind.
-#[derive(Debug, Drop)]
+#[derive(Debug, Drop, Error)]
 pub enum BindFault {
     /// It is refused so, and stays refused for these tables.
+    #[error("refused")]
     Refused(Refusal),
+    /// There was no memory for the call.
+    #[error("no memory")]
     NoMemory,
 }
 

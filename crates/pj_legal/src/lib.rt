@@ -18,3 +18,6 @@ pub use laws::{
 };
 pub use query::{AggCall, Item, Query};
 pub use reply::{Reply, reply_text};
+
+#[cfg(test)]
+mod tests;

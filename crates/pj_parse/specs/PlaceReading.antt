@@ -11,6 +11,7 @@ use Rattle.pj_parse.specs.Tokens.{Word, Number, Left, Right, Comma, Equals}
 use Rattle.pj_parse.specs.Thin.{reserved}
 use Rattle.pj_parse.specs.TokenReading.{Stream}
 
+-- one reader after another, where the first finds something
 infixl 10 ◌>>=◌
 abbrev pub ◌>>=◌ : {A B : Type 0} → Option A → (A → Option B) → Option B
 (Some x) >>= f = f x
@@ -49,6 +50,7 @@ abbrev pub word_of : Stream → Option (List ℕ × Stream)
 word_of (Some (Word word) ∷ rest) = Some (word, rest)
 word_of _ = None
 
+-- a keyword, in any letter case
 unfoldable pub keyword_of : List ℕ → Stream → Option Stream
 keyword_of capitals tokens = do
   word ← word_of tokens
@@ -60,6 +62,7 @@ exact_of text tokens = do
   word ← word_of tokens
   if same word.0 text then Some word.1 else None
 
+-- a word that isn't reserved
 unfoldable pub name_of : Stream → Option (List ℕ × Stream)
 name_of tokens = do
   word ← word_of tokens
@@ -71,22 +74,27 @@ list_name_of tokens = do
   name ← name_of tokens
   if is_function name.0 then None else Some name
 
+-- a number
 abbrev pub number_of : Stream → Option (ℕ × Stream)
 number_of (Some (Number n) ∷ rest) = Some (n, rest)
 number_of _ = None
 
+-- the left parenthesis
 abbrev pub left_of : Stream → Option Stream
 left_of (Some Left ∷ rest) = Some rest
 left_of _ = None
 
+-- the right parenthesis
 abbrev pub right_of : Stream → Option Stream
 right_of (Some Right ∷ rest) = Some rest
 right_of _ = None
 
+-- a comma
 abbrev pub comma_of : Stream → Option Stream
 comma_of (Some Comma ∷ rest) = Some rest
 comma_of _ = None
 
+-- an equals sign
 abbrev pub equals_of : Stream → Option Stream
 equals_of (Some Equals ∷ rest) = Some rest
 equals_of _ = None

@@ -91,6 +91,7 @@ unfoldable pub stream_with : ℕ → List ℕ → Stream
 stream_with zero bytes = []
 stream_with (suc n) bytes = stream_here (stream_with n) (after_blanks bytes)
 
+-- the tokens of a body, up to a place where none begins
 unfoldable pub stream : List ℕ → Stream
 stream bytes = stream_with (length bytes) bytes
 

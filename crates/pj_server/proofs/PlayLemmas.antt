@@ -1,10 +1,10 @@
 -- What is written line by line, and what that makes of a whole run.
-use Rattle.std.proofs.Common.{◌≡◌, ℕ, ◌+◌, ◌<◌, ◌≤◌, suc, Bool, true, false, cond, List, [], ◌∷◌, ◌++◌, length, get_or, take, map, min, Option, Some, None, refl, sym, ap, subst, ◌∙◌, inl, inr, append-nil, arith}
-use Rattle.std.specs.Io.KnownBytes.{Appends, Consumes, IsAtEnd}
-use Rattle.std.proofs.KnownBytes.{Appends-nil, Appends-trans, Consumes-nil}
-use Rattle.std.specs.List.{AllByRecursion}
+use Rattle.std.proofs.Common.{◌≡◌, ℕ, ◌+◌, ◌<◌, ◌≤◌, suc, Bool, true, false, ◌&&◌, cond, nat_le, List, [], ◌∷◌, ◌++◌, length, get_or, take, map, min, Option, Some, refl, sym, ap, subst, ◌∙◌, inl, inr, arith}
+use Rattle.std.specs.Io.KnownBytes.{Appends}
+use Rattle.std.proofs.KnownBytes.{Appends-nil, Appends-trans}
+use Rattle.std.proofs.lemmas.Bool.{le-leb}
 use Rattle.std.proofs.lemmas.List.{take_all, take-map, map_more, take-append-le, take_min, length-map}
-use Rattle.pj_io.specs.Transfers.{AppendsPart, TookTooMuch, TookAtMost}
+use Rattle.pj_io.specs.Transfers.{AppendsPart}
 use Rattle.pj_parse.specs.declared.types.ScriptMode.TheVariants.{Play}
 use Rattle.pj_parse.specs.declared.types.Script.{Script}
 use Rattle.pj_parse.specs.declared.types.ScriptLine.{ScriptLine}
@@ -14,8 +14,8 @@ use Rattle.pj_journal.specs.declared.entry.Entry.{Entry}
 use Rattle.pj_journal.specs.History.{IsRegular}
 use Rattle.pj_journal.specs.Log.{Log, empty_log}
 use Rattle.pj_legal.specs.declared.reply.Reply.{Reply}
-use Rattle.pj_legal.specs.Legal.{Said, body_of, statement_of, statements, Form, IsLegal}
-use Rattle.pj_legal.specs.Run.{Run, LinesRise, RunsAreLegal, cut}
+use Rattle.pj_legal.specs.Legal.{Said, body_of, statement_of, statements, Form}
+use Rattle.pj_legal.specs.Run.{LinesRise, RunsAreLegal, cut}
 use Rattle.pj_legal.specs.Laws.{CutRunsAreLegal, RunGoesOn, RunIsAsLong, TextsGoOn}
 use Rattle.pj_legal.specs.Texts.{name_at, reply_text, texts_of, history_text}
 use Rattle.pj_server.specs.declared.end.End.{End}
@@ -23,7 +23,7 @@ use Rattle.pj_server.specs.declared.end.End.TheVariants.{Usage, SourceFailed, To
 use Rattle.pj_server.specs.Moves.{Serves}
 use Rattle.pj_server.specs.RunLines.{Writes, RunsLine, RunsLines}
 use Rattle.pj_server.specs.Ends.{TellsLine, WholeScript, PartScript, ScriptEnds, FinishesSo}
-use Rattle.pj_server.specs.Played.{script_bytes, history_entries, IsRead, DoesNothing, bad_line_text, output, RunsSo, Reads, IsTaken, EndsSo}
+use Rattle.pj_server.specs.Played.{history_entries, IsRead, RunsSo, EndsSo}
 
 -- the statement of a line with this body
 abbrev said : ScriptLine → List ℕ → Said
@@ -91,20 +91,24 @@ lines_rise low [] h = tt
 lines_rise low (line ∷ lines) h = (h.0, lines_rise line.line lines h.1)
 
 module _ (whole : RunsAreLegal) (parts : CutRunsAreLegal) (limit : ℕ) (wanted : Bool) (script : Script) (log : Log) (rise : LinesRise 0 (statements script)) (regular : IsRegular log.entries) (few : length log.entries ≤ log.limit) where
+  -- the history's text where some first lines are all
+  abbrev tail : ℕ → List ℕ
+  tail count = cond (wanted && nat_le (length script.lines) count) (history_text script.names log.entries) []
+
   part_of : (end : End) (count : ℕ) (a b : Option (List ℕ)) (r : RunsLines end count (empty_log limit) log script.names script.lines a b) (c : Option (List ℕ))
-      → AppendsPart a c (texts_of script.names (take count (statements script)) r.replies ++ cond wanted (history_text script.names log.entries) []) → PartScript limit wanted script log.entries a c
+      → AppendsPart a c (texts_of script.names (take count (statements script)) r.replies ++ tail count) → PartScript limit wanted script log.entries a c
   part_of end count a b r c text =
       let same : statements (cut count script) ≡ take count (statements script) = sym (take-map statement_of count script.lines) in
       record {
         lines = count;
         replies = r.replies;
         legal = parts limit count script r.replies log.entries rise r.run regular (omega (arith, few, r.limit));
-        written = subst (λ saids. AppendsPart a c (texts_of script.names saids r.replies ++ cond wanted (history_text script.names log.entries) [])) (sym same) text;
+        written = subst (λ saids. AppendsPart a c (texts_of script.names saids r.replies ++ tail count)) (sym same) text;
       }
 
   stopped : (end : End) (count : ℕ) (a b : Option (List ℕ)) (r : RunsLines end count (empty_log limit) log script.names script.lines a b)
       → AppendsPart a b (texts_of script.names (take count (statements script)) r.replies) → PartScript limit wanted script log.entries a b
-  stopped end count a b r text = part_of end count a b r b (AppendsPart-longer a b _ (cond wanted (history_text script.names log.entries) []) text)
+  stopped end count a b r text = part_of end count a b r b (AppendsPart-longer a b _ (tail count) text)
 
   all_of : (count : ℕ) (a b : Option (List ℕ)) (r : RunsLines Finished count (empty_log limit) log script.names script.lines a b) (c : Option (List ℕ)) → count ≡ length script.lines
       → Appends b c (cond wanted (history_text script.names log.entries) []) → WholeScript limit wanted script log.entries a c
@@ -118,12 +122,19 @@ module _ (whole : RunsAreLegal) (parts : CutRunsAreLegal) (limit : ℕ) (wanted 
         written = Appends-trans a b c _ _ replies text;
       }
 
+  tail_is : (count : ℕ) → count ≡ length script.lines → wanted ≡ true → tail count ≡ history_text script.names log.entries
+  tail_is count all wish =
+      let over : nat_le (length script.lines) count ≡ true = le-leb _ _ (omega arith) in
+      ap (λ w. cond (w && nat_le (length script.lines) count) (history_text script.names log.entries) []) wish ∙ ap (λ w. cond w (history_text script.names log.entries) []) over
+
   -- the history's text behind all the replies
-  with_history : (end : End) (count : ℕ) (a b c : Option (List ℕ)) (r : RunsLines Finished count (empty_log limit) log script.names script.lines a b) → count ≡ length script.lines → cond wanted (history_text script.names log.entries) [] ≡ history_text script.names log.entries
+  with_history : (end : End) (count : ℕ) (a b c : Option (List ℕ)) (r : RunsLines Finished count (empty_log limit) log script.names script.lines a b) → count ≡ length script.lines → wanted ≡ true
       → Writes end b c (history_text script.names log.entries) → ScriptEnds end limit wanted script log.entries a c
-  with_history Finished count a b c r all wish h = all_of count a b r c all (rw wish h)
-  with_history SinkFailed count a b c r all wish h = part_of Finished count a b r c (rw wish (AppendsPart-after a b c _ (history_text script.names log.entries) r.written h))
-  with_history NoMemory count a b c r all wish h = part_of Finished count a b r c (rw wish (AppendsPart-after a b c _ (history_text script.names log.entries) r.written h))
+  with_history Finished count a b c r all wish h =
+      let whole_text : cond wanted (history_text script.names log.entries) [] ≡ history_text script.names log.entries = ap (λ w. cond w (history_text script.names log.entries) []) wish in
+      all_of count a b r c all (rw whole_text h)
+  with_history SinkFailed count a b c r all wish h = part_of Finished count a b r c (rw (tail_is count all wish) (AppendsPart-after a b c _ (history_text script.names log.entries) r.written h))
+  with_history NoMemory count a b c r all wish h = part_of Finished count a b r c (rw (tail_is count all wish) (AppendsPart-after a b c _ (history_text script.names log.entries) r.written h))
   with_history BadLine count a b c r all wish h = absurd h
   with_history Usage count a b c r all wish h = absurd h
   with_history SourceFailed count a b c r all wish h = absurd h
@@ -131,7 +142,7 @@ module _ (whole : RunsAreLegal) (parts : CutRunsAreLegal) (limit : ℕ) (wanted 
 
   by_wish : (lines end : End) (count : ℕ) (a b c : Option (List ℕ)) (asked : Bool) → (r : RunsLines lines count (empty_log limit) log script.names script.lines a b) → (lines ≡ Finished → count ≡ length script.lines)
       → wanted ≡ asked → FinishesSo lines end asked b c (history_text script.names log.entries) → ScriptEnds end limit wanted script log.entries a c
-  by_wish Finished end count a b c true r all wish h = with_history end count a b c r (all refl) (ap (λ w. cond w (history_text script.names log.entries) []) wish) h
+  by_wish Finished end count a b c true r all wish h = with_history end count a b c r (all refl) wish h
   by_wish Finished end count a b c false r all wish h =
       let none : cond wanted (history_text script.names log.entries) [] ≡ [] = ap (λ w. cond w (history_text script.names log.entries) []) wish in
       subst (λ e. ScriptEnds e limit wanted script log.entries a c) (sym h.0) (all_of count a b r c (all refl) (rw (none, h.1) (Appends-nil b)))

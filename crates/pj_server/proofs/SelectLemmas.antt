@@ -1,7 +1,5 @@
 -- The answer of a query has the kinds of its items.
-use Rattle.std.proofs.Common.{◌≡◌, List, [], ◌∷◌, map, refl, ap}
-use Rattle.std.specs.Prelude.{ℕ}
-use Rattle.pj_value.specs.declared.value.Kind.{Kind}
+use Rattle.std.proofs.Common.{◌≡◌, List, [], ◌∷◌, map, refl}
 use Rattle.pj_value.specs.declared.value.Value.{Value}
 use Rattle.pj_value.specs.declared.value.AggKind.{AggKind}
 use Rattle.pj_value.specs.declared.value.AggKind.TheVariants.{Count}

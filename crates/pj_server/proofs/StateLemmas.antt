@@ -1,12 +1,10 @@
 -- The state stands for its history after each kind of move.
-use Rattle.std.proofs.Common.{◌≡◌, ℕ, ◌+◌, ◌<◌, ◌≤◌, zero, suc, List, [], ◌∷◌, ◌++◌, length, get_or, set, Option, Some, None, refl, sym, ap, subst, ◌∙◌, inl, inr, arith}
+use Rattle.std.proofs.Common.{◌≡◌, ℕ, ◌+◌, ◌<◌, zero, suc, List, [], ◌∷◌, ◌++◌, length, get_or, set, Option, Some, refl, sym, ap, subst, ◌∙◌, inl, inr, arith}
 use Rattle.std.specs.List.{slice_get, flat_map}
 use Rattle.std.proofs.lemmas.Bool.{cases_lt, cases_eq}
 use Rattle.std.proofs.lemmas.List.{get_or_append_left, get_or_push, length_push, length-set, get_or-set_same, get_or-set_other}
-use Rattle.std.proofs.lemmas.Option.{slice_get_within}
 use Rattle.pj_value.specs.Rows.{KindedRows, no_rows}
 use Rattle.pj_journal.specs.declared.table.Table.{Table}
-use Rattle.pj_journal.specs.declared.entry.What.{What}
 use Rattle.pj_journal.specs.declared.entry.What.TheVariants.{Created, Inserted}
 use Rattle.pj_journal.specs.declared.entry.Entry.{Entry}
 use Rattle.pj_journal.specs.History.{catalog, catalog_on, blocks, blocks_on, rows, next, next_on, kinds_of, WhatFits, IsRegular}

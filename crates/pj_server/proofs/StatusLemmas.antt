@@ -1,9 +1,8 @@
 -- What a status says of how the call ended.
-use Rattle.std.proofs.Common.{◌≡◌, ℕ, suc, ◌+◌, ◌<◌, ◌≤◌, ◌⊎◌, Bool, cond, eqb, List, [], ◌∷◌, ◌++◌, length, Option, Some, None, refl, sym, ap, subst, ◌∙◌, inl, inr, append-nil, lit<, arith}
+use Rattle.std.proofs.Common.{◌≡◌, ℕ, ◌+◌, ◌≤◌, ◌⊎◌, Bool, List, [], ◌∷◌, ◌++◌, length, Option, Some, None, refl, ap, subst, ◌∙◌, inl, inr, append-nil, lit<, arith}
 use Rattle.std.specs.Prelude.{Contains}
 use Rattle.std.specs.Io.KnownBytes.{Consumes, IsAtEnd}
 use Rattle.std.proofs.lemmas.List.{length-append}
-use Rattle.pj_io.specs.Transfers.{TookTooMuch, TookAtMost}
 use Rattle.pj_parse.specs.declared.types.ScriptMode.TheVariants.{Play}
 use Rattle.pj_parse.specs.declared.types.Script.{Script}
 use Rattle.pj_parse.specs.Lines.{IsScript}
@@ -12,7 +11,7 @@ use Rattle.pj_journal.specs.declared.entry.Entry.{Entry}
 use Rattle.pj_server.specs.declared.end.End.{End}
 use Rattle.pj_server.specs.declared.end.End.TheVariants.{Usage, SourceFailed, TooLarge, BadLine, SinkFailed, NoMemory, Finished}
 use Rattle.pj_server.specs.Status.{status_of}
-use Rattle.pj_server.specs.Played.{script_bytes, IsRead, DoesNothing, Reads, EndsSo}
+use Rattle.pj_server.specs.Played.{script_bytes, EndsSo}
 
 -- no other status
 pub statuses : (end : End) → Contains (0 ∷ 2 ∷ 3 ∷ 4 ∷ 5 ∷ 6 ∷ 7 ∷ []) (status_of end)

@@ -1,5 +1,5 @@
 -- How the parts of a run end. No public contract cites this file.
-use Rattle.std.specs.Prelude.{◌≡◌, ℕ, Bool, true, false, List, ◌⊎◌, Option}
+use Rattle.std.specs.Prelude.{◌≡◌, ℕ, Bool, true, false, List, Option}
 use Rattle.std.specs.Io.KnownBytes.{Appends}
 use Rattle.pj_io.specs.Transfers.{AppendsPart}
 use Rattle.pj_parse.specs.declared.types.Script.{Script}
@@ -9,7 +9,7 @@ use Rattle.pj_legal.specs.Legal.{IsLegal}
 use Rattle.pj_legal.specs.Run.{cut}
 use Rattle.pj_server.specs.declared.end.End.{End}
 use Rattle.pj_server.specs.declared.end.End.TheVariants as ends
-use Rattle.pj_server.specs.Played.{bad_line_text, output}
+use Rattle.pj_server.specs.Played.{bad_line_text, output, output_of_part}
 use Rattle.pj_server.specs.RunLines.{Writes}
 
 -- a bad line was told, or a front of its text was
@@ -33,7 +33,7 @@ pub record PartScript (limit : ℕ) (wanted : Bool) (script : Script) (h : List 
   pub lines : ℕ
   pub replies : List Reply
   pub legal : IsLegal limit (cut lines script) h replies
-  pub written : AppendsPart before after (output wanted (cut lines script) h replies)
+  pub written : AppendsPart before after (output_of_part lines wanted script h replies)
 
 -- a script was played whole, or in part
 abbrev pub ScriptEnds : End → ℕ → Bool → Script → List Entry → Option (List ℕ) → Option (List ℕ) → Type 0

@@ -1,5 +1,5 @@
 -- What `play` read, wrote and kept, by how it ended (docs/MODEL.md, "The headline").
-use Rattle.std.specs.Prelude.{◌≡◌, ℕ, ◌≤◌, ◌⊎◌, Bool, List, [], ◌++◌, length, Option, Some, None, if◌then◌else◌, codes}
+use Rattle.std.specs.Prelude.{◌≡◌, ℕ, ◌≤◌, ◌⊎◌, Bool, ◌&&◌, nat_le, List, [], ◌++◌, length, Option, Some, None, if◌then◌else◌, codes}
 use Rattle.std.specs.Fmt.{decimal}
 use Rattle.std.specs.Io.KnownBytes.{Appends, Consumes, IsAtEnd}
 use Rattle.pj_io.specs.Transfers.{AppendsPart, TookTooMuch, TookAtMost}
@@ -55,6 +55,10 @@ pub record TellsPart (bytes : List ℕ) (h : List Entry) (before after : Option 
 abbrev pub output : Bool → Script → List Entry → List Reply → List ℕ
 output wanted script h replies = replies_text script replies ++ (if wanted then history_text script.names h else [])
 
+-- what is written for the first lines: the history's text stands behind the last line alone
+abbrev pub output_of_part : ℕ → Bool → Script → List Entry → List Reply → List ℕ
+output_of_part lines wanted script h replies = output (wanted && nat_le (length script.lines) lines) (cut lines script) h replies
+
 -- the bytes spell a script, the history is legal for it with these replies, and their text was written
 pub record PlaysScript (limit : ℕ) (wanted : Bool) (bytes : List ℕ) (h : List Entry) (before after : Option (List ℕ)) : Type 0 where
   pub script : Script
@@ -70,7 +74,7 @@ pub record PlaysPart (limit : ℕ) (wanted : Bool) (bytes : List ℕ) (h : List 
   pub lines : ℕ
   pub replies : List Reply
   pub legal : IsLegal limit (cut lines script) h replies
-  pub written : AppendsPart before after (output wanted (cut lines script) h replies)
+  pub written : AppendsPart before after (output_of_part lines wanted script h replies)
 
 -- what holds of the bytes, the history and what was written, by how the run of the bytes ended
 abbrev pub RunsSo : End → ℕ → Bool → List ℕ → List Entry → Option (List ℕ) → Option (List ℕ) → Type 0

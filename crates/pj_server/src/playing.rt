@@ -1,6 +1,7 @@
 //! The top call of `projplay`: from the bytes of a script to the bytes of its replies and the history of its run.
 ghost use Rattle.std.specs.Prelude.{◌≡◌, ℕ, ◌<◌, ◌≤◌, ◌↔◌, ◌⊎◌, List, [], ◌∷◌, length, map, Contains, Some, None, string_bytes, IfOk};
 ghost use Rattle.std.specs.List.{AllByRecursion};
+ghost use Rattle.std.specs.Io.KnownBytes.{Consumes};
 ghost use Rattle.pj_io.specs.Faults.{Rose};
 ghost use Rattle.pj_io.specs.Transfers.{TookTooMuch, TookAtMost};
 ghost use Rattle.pj_parse.specs.declared.types.ScriptMode.TheVariants.{Play};
@@ -62,6 +63,7 @@ pub fn play<R: Source, W: Sink>(
 ) -> Ran
     // The words alone decide this.
     ensures usage { (result.status ≡ 2) ↔ (wish_of (map string_bytes words.now) ≡ None) }
+    ensures unread { result.status ≡ 2 → Consumes (R.left source.old) (R.left source.new) [] }
 
     ensures source_failed { result.status ≡ 4 → Rose (R.faults source.old) (R.faults source.new) }
     ensures too_large { result.status ≡ 7 → TookTooMuch script_bytes (R.left source.old) (R.left source.new) }

@@ -13,7 +13,10 @@ pub enum About {
 
 impl About {
     /// The text, of whole lines.
-    pub fn text(self) -> &'static str {
+    pub fn text(self) -> &'static str
+        ensures help { self ≡ About.Help → result.now ≡ HELP.now }
+        ensures version { self ≡ About.Version → result.now ≡ VERSION.now }
+    {
         match self {
             About::Help => HELP,
             About::Version => VERSION,

@@ -5,6 +5,7 @@ use super::*;
 use crate::end::End;
 use crate::playing::play_bytes;
 use pj_io::{MemorySink, MemorySource};
+use pj_journal::{Entry, What};
 use std::alloc::{AllocError, Global};
 use std::test::Fail;
 
@@ -29,6 +30,15 @@ struct Run {
     status: u8,
     written: Vec<u8>,
     entries: usize,
+    /// Whether the first entry is that of a table.
+    creates: bool,
+}
+
+fn creates(entries: &[Entry]) -> bool {
+    match entries.first() {
+        Some(entry) => matches!(entry.what, What::Created(_)),
+        None => false,
+    }
 }
 
 fn words(alloc: Global, given: &[&str]) -> Result<Vec<String>, AllocError> {
@@ -53,12 +63,13 @@ fn played(
     let words = words(alloc, given)?;
     let bytes = Vec::from_slice(alloc, script)?;
     let mut source = MemorySource::new(bytes, piece, vec![in alloc; source_fails]?);
-    let mut sink = MemorySink::new(alloc, piece, vec![in alloc; sink_fails]?);
+    let mut sink = MemorySink::new(piece, vec![in alloc; sink_fails]?);
     let ran = play(alloc, words.as_slice(), &mut source, &mut sink);
     Ok(Run {
         status: ran.status,
         written: Vec::from_slice(alloc, sink.bytes())?,
         entries: ran.history.entries().len(),
+        creates: creates(ran.history.entries()),
     })
 }
 
@@ -114,10 +125,11 @@ fn each_status_has_its_cause(rt: HostRuntime) -> Result<(), Fail> {
     let empty = played(alloc, &[], b"", 4096, 0, 0)?;
     assert!(rt; empty.status == 0 && empty.written.is_empty() && empty.entries == 0);
     let first = played(alloc, &[], COUNT, 4096, 0, 1)?;
-    assert!(rt; first.status == 5 && first.written.is_empty() && first.entries == 1);
+    assert!(rt; first.status == 5 && first.written.is_empty());
+    assert!(rt; first.entries == 1 && first.creates);
     let marks = vec![in alloc; b'#'; 16_777_217]?;
     let large = played(alloc, &[], marks.as_slice(), 16_777_217, 0, 0)?;
-    assert!(rt; large.status == 7 && large.written.is_empty());
+    assert!(rt; large.status == 7 && large.written.is_empty() && large.entries == 0);
     Ok(())
 }
 
@@ -141,7 +153,7 @@ a: SELECT count() FROM u
 #[test]
 fn a_full_journal_refuses_the_next_move(rt: HostRuntime) -> Result<(), Fail> {
     let replies = b"1 a ok\n2 a LIMIT HISTORY\n3 a LIMIT HISTORY\n";
-    let mut sink = MemorySink::new(rt.alloc(), 4096, Vec::new(rt.alloc()));
+    let mut sink = MemorySink::new(4096, Vec::new(rt.alloc()));
     let bytes = Vec::from_slice(rt.alloc(), COUNT)?;
     let whole = play_bytes(rt.alloc(), 2, false, bytes, &mut sink);
     assert!(rt; whole.end == End::Finished && whole.history.entries().len() == 2);

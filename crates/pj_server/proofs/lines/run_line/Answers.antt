@@ -1,4 +1,4 @@
-use Rattle.std.proofs.Common.{◌≡◌, ap, ◌∙◌, refl, get_or, sym, []}
+use Rattle.std.proofs.Common.{◌∙◌, refl, sym, []}
 use Rattle.std.proofs.lemmas.List.{get_or_read}
 use Rattle.pj_server.specs.declared.end.End.TheVariants.{NoMemory}
 use Rattle.pj_legal.specs.Texts.{reply_text}

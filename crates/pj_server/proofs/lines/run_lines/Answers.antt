@@ -1,4 +1,4 @@
-use Rattle.std.proofs.Common.{◌≡◌, ◌+◌, ◌∙◌, refl, arith}
+use Rattle.std.proofs.Common.{◌+◌, arith}
 use Rattle.pj_server.specs.declared.end.End.TheVariants.{Finished}
 use Rattle.pj_server.proofs.PlayLemmas.{RunsLines-more}
 use Rattle.pj_server.proofs.lines.run_lines.Goals as goal

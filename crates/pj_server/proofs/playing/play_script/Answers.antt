@@ -1,4 +1,3 @@
-use Rattle.std.proofs.Common.{◌≡◌, ap, ◌∙◌, refl, sym}
 use Rattle.pj_server.proofs.PlayLemmas.{script_ends}
 use Rattle.pj_server.proofs.playing.play_script.Goals as goal
 

@@ -1,4 +1,4 @@
-use Rattle.std.proofs.Common.{◌≡◌, ◌<◌, length, ap, ◌∙◌, refl, arith}
+use Rattle.std.proofs.Common.{◌<◌, length, ap, ◌∙◌, refl, arith}
 use Rattle.std.proofs.lemmas.Option.{slice_get_within}
 use Rattle.pj_journal.specs.History.{catalog}
 use Rattle.pj_server.proofs.HistoryLemmas.{next-le-length}

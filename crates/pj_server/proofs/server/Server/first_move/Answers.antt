@@ -1,5 +1,4 @@
-use Rattle.std.proofs.Common.{◌≡◌, refl}
-use Rattle.pj_server.proofs.MoveLemmas.{body_fits, serves_bound, serves_no_memory, serves_refusal, Adds-nil}
+use Rattle.pj_server.proofs.MoveLemmas.{body_fits, serves_bound, serves_no_memory, Adds-nil}
 use Rattle.pj_server.proofs.server.Server.first_move.Goals as goal
 
 pub run_bound-requires-clause-fits : goal.run_bound-requires-clause-fits

@@ -1,4 +1,3 @@
-use Rattle.std.proofs.Common.{◌≡◌}
 use Rattle.pj_server.proofs.StateLemmas.{Stands-noted}
 use Rattle.pj_server.proofs.server.Server.note.Goals as goal
 

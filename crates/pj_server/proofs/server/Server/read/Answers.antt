@@ -1,4 +1,4 @@
-use Rattle.std.proofs.Common.{◌≡◌, ap, ◌∙◌, refl, inl}
+use Rattle.std.proofs.Common.{ap, ◌∙◌, refl, inl}
 use Rattle.pj_journal.specs.History.{catalog}
 use Rattle.pj_server.proofs.MoveLemmas.{read_binds, read_refuses}
 use Rattle.pj_server.proofs.server.Server.read.Goals as goal
