@@ -1,6 +1,6 @@
 -- Laws over the definitions of this crate, each shown by a function of its own (src/laws.rt).
 use Rattle.std.specs.Prelude.{◌≡◌, ℕ, ◌≤◌, List, [], ◌∷◌, ◌++◌, length, take, filter, Some, slice_get, ◌<◌, ◌^◌, ◌⊎◌, Contains, nat_lt}
-use Rattle.std.specs.List.{AllZip}
+use Rattle.std.specs.List.{AllByRecursion, AllZip}
 use Rattle.std.specs.Fmt.{decimal}
 use Rattle.pj_parse.specs.declared.types.Script.{Script}
 use Rattle.pj_parse.specs.declared.types.Statement.{Statement}
@@ -93,6 +93,11 @@ IsPlainRefusal refusal = Unit {0}
 abbrev pub IsPlain : Reply → Type 0
 IsPlain (replies.Refused refusal) = IsPlainRefusal refusal
 IsPlain reply = Unit {0}
+
+-- no name that a legal reply gives has a line feed
+abbrev pub LegalRepliesArePlain : Type 0
+LegalRepliesArePlain =
+    (limit : ℕ) (script : Script) (h : List Entry) (said : List Reply) → IsLegal limit script h said → AllByRecursion IsPlain said
 
 -- from a text that begins with a reply its line and its name can be read, and what it announces where its names have no line feed
 abbrev pub RepliesAreToldApart : Type 0

@@ -1,5 +1,5 @@
 //! Laws over the definitions of this crate. Each function does nothing: its clause is the law.
-ghost use Rattle.pj_legal.specs.Laws.{CutRunsAreLegal, FullRefusesAll, RunGoesOn, RunIsAsLong, TextsGoOn, NamesAreUnique, BoundOrRefused, TextsTellNumbers, RepliesAreToldApart, AnnouncementsAreToldApart};
+ghost use Rattle.pj_legal.specs.Laws.{CutRunsAreLegal, FullRefusesAll, RunGoesOn, RunIsAsLong, TextsGoOn, NamesAreUnique, BoundOrRefused, TextsTellNumbers, LegalRepliesArePlain, RepliesAreToldApart, AnnouncementsAreToldApart};
 ghost use Rattle.pj_legal.specs.Run.{RunsAreLegal};
 
 /// What one thread leaves that runs a script's statements in their order is a legal history.
@@ -48,6 +48,11 @@ pub fn bound_or_refused()
 /// A number of 64 bits has one text in decimal.
 pub fn texts_tell_numbers()
     ensures { TextsTellNumbers }
+{}
+
+/// No name that a reply of a legal history gives has a line feed: it is a word of the statement's body.
+pub fn legal_replies_are_plain()
+    ensures { LegalRepliesArePlain }
 {}
 
 /// A reader of replies can tell them apart: the line and the session's name are read from a text that begins with a

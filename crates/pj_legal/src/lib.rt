@@ -12,9 +12,9 @@ pub mod types;
 pub use binding::{BindFault, bind};
 pub use history::history_text;
 pub use laws::{
-    announcements_are_told_apart, bound_or_refused, cut_runs, full_refuses_all, names_are_unique,
-    replies_are_told_apart, run_goes_on, run_is_as_long, runs_are_legal, texts_go_on,
-    texts_tell_numbers,
+    announcements_are_told_apart, bound_or_refused, cut_runs, full_refuses_all,
+    legal_replies_are_plain, names_are_unique, replies_are_told_apart, run_goes_on, run_is_as_long,
+    runs_are_legal, texts_go_on, texts_tell_numbers,
 };
 pub use query::{AggCall, Item, Query};
 pub use reply::{Reply, reply_text};
