@@ -2,17 +2,18 @@
 import collections
 import os
 import pathlib
+import resource
 import shutil
+import signal
 import statistics
 import subprocess
 import sys
 import tempfile
-import threading
 
 TOP = pathlib.Path(__file__).resolve().parent.parent
 # A run that takes longer is killed.
 SECONDS = 600
-# GNU time, which starts the program from a process that is small itself.
+# GNU time tells a program's peak. What the system tells of a child of this script is never less than this script's own.
 TIME = shutil.which('time')
 MIB = 1024 * 1024
 
@@ -30,28 +31,28 @@ def program():
 
 
 def run(command, script):
-    """One run with the file as standard input: its status, its seconds of processor time, its peak in bytes, its output."""
+    """One run with the file as standard input: its status, its seconds of processor time, its peak in bytes (0 where
+    it can't be told) and its output."""
     with tempfile.TemporaryDirectory() as folder:
         note = os.path.join(folder, 'peak')
         output = os.path.join(folder, 'output')
         timed = [TIME, '-f', '%M', '-o', note] if TIME else []
+        before = resource.getrusage(resource.RUSAGE_CHILDREN)
         with open(script, 'rb') as source, open(output, 'wb') as sink:
-            child = subprocess.Popen([*timed, *command], stdin=source, stdout=sink)
-            timer = threading.Timer(SECONDS, child.kill)
-            timer.start()
-            _, ended, usage = os.wait4(child.pid, 0)
-            timer.cancel()
-        child.returncode = os.waitstatus_to_exitcode(ended)
-        peak = usage.ru_maxrss
-        if TIME and child.returncode >= 0:
-            peak = int(pathlib.Path(note).read_text().split()[-1])
-        written = pathlib.Path(output).read_bytes()
-    return Run(child.returncode, usage.ru_utime + usage.ru_stime, peak * 1024, written)
+            child = subprocess.Popen([*timed, *command], stdin=source, stdout=sink, start_new_session=True)
+            try:
+                status = child.wait(SECONDS)
+            except subprocess.TimeoutExpired:
+                os.killpg(child.pid, signal.SIGKILL)
+                status = child.wait()
+        after = resource.getrusage(resource.RUSAGE_CHILDREN)
+        seconds = after.ru_utime + after.ru_stime - before.ru_utime - before.ru_stime
+        peak = int(pathlib.Path(note).read_text().split()[-1]) * 1024 if TIME and status >= 0 else 0
+        return Run(status, seconds, peak, pathlib.Path(output).read_bytes())
 
 
-def repeated(times, command, script):
+def median(runs):
     """Several runs as one: the median of their seconds, their greatest peak, and the last one's status and output."""
-    runs = [run(command, script) for _ in range(times)]
     seconds = statistics.median(each.seconds for each in runs)
     return runs[-1]._replace(seconds=seconds, peak=max(each.peak for each in runs))
 
@@ -60,7 +61,7 @@ def heading():
     """Prints what the numbers are."""
     print('Times are processor time, user and system, of the whole run.')
     if not TIME:
-        print('The command time is missing: a peak below that of this script, about 10 to 60 MiB, cannot be told.')
+        print('skipped: peaks of memory, since the command time is missing')
     print()
 
 
