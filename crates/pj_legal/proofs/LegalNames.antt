@@ -69,6 +69,41 @@ IsRefusal-bound tables (statements.Create name columns key) bound refusal unique
 IsRefusal-bound tables (statements.Insert name rows) bound refusal unique b r = excluded_insert tables name rows bound refusal unique b r
 IsRefusal-bound tables (statements.Select select) bound refusal unique b r = excluded_select tables select bound refusal b r
 
+-- a CREATE TABLE is refused in one way
+one_create : (tables : List Table) (name : List ℕ) (columns : _) (key : _) (a b : Refusal)
+    → IsRefusal tables (statements.Create name columns key) a → IsRefusal tables (statements.Create name columns key) b → a ≡ b
+one_create tables name columns key (TableExists one) (TableExists other) r s = ap TableExists (r.0 ∙ sym s.0)
+one_create tables name columns key (TableExists one) NotBuilt r s = absurd (s.0 r.1)
+one_create tables name columns key (TableExists one) b r s = absurd s
+one_create tables name columns key NotBuilt (TableExists other) r s = absurd (r.0 s.1)
+one_create tables name columns key NotBuilt NotBuilt r s = refl
+one_create tables name columns key NotBuilt b r s = absurd s
+one_create tables name columns key a b r s = absurd r
+
+-- and so is an INSERT
+one_insert : (tables : List Table) (name : List ℕ) (rows : _) (a b : Refusal)
+    → IsRefusal tables (statements.Insert name rows) a → IsRefusal tables (statements.Insert name rows) b → a ≡ b
+one_insert tables name rows (UnknownTable one) (UnknownTable other) r s = ap UnknownTable (r.0 ∙ sym s.0)
+one_insert tables name rows (UnknownTable one) NotBuilt r s = absurd (IsUnknown-at tables name s.0 s.1 s.2 r.1)
+one_insert tables name rows (UnknownTable one) b r s = absurd s
+one_insert tables name rows NotBuilt (UnknownTable other) r s = absurd (IsUnknown-at tables name r.0 r.1 r.2 s.1)
+one_insert tables name rows NotBuilt NotBuilt r s = refl
+one_insert tables name rows NotBuilt b r s = absurd s
+one_insert tables name rows a b r s = absurd r
+
+-- and a SELECT
+one_select : (tables : List Table) (select : _) (a b : Refusal)
+    → IsRefusal tables (statements.Select select) a → IsRefusal tables (statements.Select select) b → a ≡ b
+one_select tables select (UnknownTable one) (UnknownTable other) r s = ap UnknownTable (r.0 ∙ sym s.0)
+one_select tables select (UnknownTable one) b r s = absurd s
+one_select tables select a b r s = absurd r
+
+-- so a statement is refused in one way
+pub IsRefusal-one : (tables : List Table) (statement : Statement) (a b : Refusal) → IsRefusal tables statement a → IsRefusal tables statement b → a ≡ b
+IsRefusal-one tables (statements.Create name columns key) a b r s = one_create tables name columns key a b r s
+IsRefusal-one tables (statements.Insert name rows) a b r s = one_insert tables name rows a b r s
+IsRefusal-one tables (statements.Select select) a b r s = one_select tables select a b r s
+
 -- an element of a longer list is one of the list, or the last
 slice_get_push : {X : Type 0} (xs : List X) (x : X) (i : ℕ) (y : X) → slice_get (xs ++ x ∷ []) i ≡ Some y → (slice_get xs i ≡ Some y) ⊎ ((i ≡ length xs) × (x ≡ y))
 slice_get_push [] x zero y here = inr (refl, same_Some x y here)

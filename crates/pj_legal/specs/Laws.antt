@@ -75,6 +75,10 @@ BoundOrRefused =
     (tables : List Table) (statement : Statement) (bound : Bound) (refusal : Refusal) → HasUniqueNames tables
     → IsBound tables statement bound → IsRefusal tables statement refusal → ⊥
 
+-- a statement is refused in one way at most
+abbrev pub OneRefusal : Type 0
+OneRefusal = (tables : List Table) (statement : Statement) (a b : Refusal) → IsRefusal tables statement a → IsRefusal tables statement b → a ≡ b
+
 -- numbers of one text in decimal are one
 abbrev pub TextsTellNumbers : Type 0
 TextsTellNumbers = (m n : ℕ) → m < 2 ^ 64 → n < 2 ^ 64 → decimal m ≡ decimal n → m ≡ n

@@ -1,5 +1,5 @@
 //! Laws over the definitions of this crate. Each function does nothing: its clause is the law.
-ghost use Rattle.pj_legal.specs.Laws.{CutRunsAreLegal, FullRefusesAll, RunGoesOn, RunIsAsLong, TextsGoOn, NamesAreUnique, BoundOrRefused, TextsTellNumbers, LegalRepliesArePlain, RepliesAreToldApart, AnnouncementsAreToldApart};
+ghost use Rattle.pj_legal.specs.Laws.{CutRunsAreLegal, FullRefusesAll, RunGoesOn, RunIsAsLong, TextsGoOn, NamesAreUnique, BoundOrRefused, OneRefusal, TextsTellNumbers, LegalRepliesArePlain, RepliesAreToldApart, AnnouncementsAreToldApart};
 ghost use Rattle.pj_legal.specs.Run.{RunsAreLegal};
 
 /// What one thread leaves that runs a script's statements in their order is a legal history.
@@ -43,6 +43,11 @@ pub fn names_are_unique()
 /// might fit the first alone.
 pub fn bound_or_refused()
     ensures { BoundOrRefused }
+{}
+
+/// A statement is refused in one way at most, whatever the names of the tables are.
+pub fn one_refusal()
+    ensures { OneRefusal }
 {}
 
 /// A number of 64 bits has one text in decimal.

@@ -13,8 +13,8 @@ pub use binding::{BindFault, bind};
 pub use history::history_text;
 pub use laws::{
     announcements_are_told_apart, bound_or_refused, cut_runs, full_refuses_all,
-    legal_replies_are_plain, names_are_unique, replies_are_told_apart, run_goes_on, run_is_as_long,
-    runs_are_legal, texts_go_on, texts_tell_numbers,
+    legal_replies_are_plain, names_are_unique, one_refusal, replies_are_told_apart, run_goes_on,
+    run_is_as_long, runs_are_legal, texts_go_on, texts_tell_numbers,
 };
 pub use query::{AggCall, Item, Query};
 pub use reply::{Reply, reply_text};

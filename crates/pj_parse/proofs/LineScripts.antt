@@ -11,7 +11,7 @@ use Rattle.pj_parse.specs.declared.types.Script.{Script}
 use Rattle.pj_parse.specs.declared.lines.ScriptFault.{ScriptFault}
 use Rattle.pj_parse.specs.declared.lines.ScriptFault.TheVariants as faults
 use Rattle.pj_parse.specs.Lines.{pieces, IsSkipped, Numbers, names_limit, SpellsLine, AreLines, IsScript, IsBadLine, HasLineCause}
-use Rattle.pj_parse.specs.LineLaws.{OneReading, NoScriptWithABadLine, RisesFrom, LinesRise}
+use Rattle.pj_parse.specs.LineLaws.{OneReading, NoScriptWithABadLine, OneBadLine, RisesFrom, LinesRise}
 use Rattle.pj_parse.specs.ReadingLines.{◌>>=◌, Gives, or_bad, behind_blanks, is_skipped, name_and_rest, body_of, numbered, line_at, lines_at, script_of}
 use Rattle.pj_parse.proofs.LineSpelling.{IsSkipped-from, is_skipped-is, SpellsAct-from, reads_act}
 use Rattle.pj_parse.proofs.LineNumbers.{AreDifferent, ok_is, Numbers-from, numbered-is, numbered-err, AreDifferent-numbers}
@@ -326,15 +326,46 @@ bad_is_not_read : (mode : ScriptMode) (number : ℕ) (names : List (List ℕ)) (
 bad_is_not_read mode number names piece (after, None) not_skipped no_line read = not_skipped read.0
 bad_is_not_read mode number names piece (after, Some line) not_skipped no_line read = no_line line after read
 
-pub no_script_with_a_bad_line : NoScriptWithABadLine
-no_script_with_a_bad_line mode bytes script number spelled bad =
-    let whole = lines_at-is mode 1 [] script.names (pieces bytes) script.lines AreDifferent-nil spelled in
+-- no pieces with a bad line among them are lines
+behind_bad : (mode : ScriptMode) (bytes : List ℕ) (number : ℕ) (bad : IsBadLine mode bytes number) (names : List (List ℕ)) (ps back : List (List ℕ)) (lines : List ScriptLine)
+    → ps ≡ bad.front ++ bad.piece ∷ back → AreLines mode 1 [] ps lines names → ⊥
+behind_bad mode bytes number bad names ps back lines is are =
+    let whole = lines_at-is mode 1 [] names ps lines AreDifferent-nil are in
     let good = lines_at-is mode 1 [] bad.names bad.front bad.lines AreDifferent-nil bad.good in
-    let parts : lines_at mode 1 [] (bad.front ++ bad.piece ∷ bad.back) ≡ Ok (script.names, script.lines) = ap (lines_at mode 1 []) (sym bad.parts) ∙ whole in
-    let read = read_at mode 1 [] bad.front bad.piece bad.back (bad.names, bad.lines) (script.names, script.lines) good parts in
+    let parts : lines_at mode 1 [] (bad.front ++ bad.piece ∷ back) ≡ Ok (names, lines) = ap (lines_at mode 1 []) (sym is) ∙ whole in
+    let read = read_at mode 1 [] bad.front bad.piece back (bad.names, bad.lines) (names, lines) good parts in
     let few = few-lines mode 1 [] bad.names bad.front bad.lines (few-nil mode) bad.good in
     bad_is_not_read mode number bad.names bad.piece read.0 bad.not_skipped bad.no_line
     (subst (λ (x : ℕ). IsRead mode x bad.names bad.piece read.0) (sym bad.counted) (IsRead-from mode (length bad.front + 1) bad.names bad.piece read.0 few read.1))
+
+pub no_script_with_a_bad_line : NoScriptWithABadLine
+no_script_with_a_bad_line mode bytes script number spelled bad =
+    behind_bad mode bytes number bad script.names (pieces bytes) bad.back script.lines bad.parts spelled
+
+-- two ways to cut a list at an element: at one place, or one place is among what is before the other
+abbrev AreCuts : {X : Type 0} → List X → X → List X → X → Type 0
+AreCuts {X} front x other y = (length front ≡ length other) ⊎ ((more : List X) × (other ≡ front ++ x ∷ more)) ⊎ ((more : List X) × (front ≡ other ++ y ∷ more))
+
+AreCuts-behind : {X : Type 0} (z : X) (front : List X) (x : X) (other : List X) (y : X) → AreCuts front x other y → AreCuts (z ∷ front) x (z ∷ other) y
+AreCuts-behind z front x other y (inl same) = inl (ap suc same)
+AreCuts-behind z front x other y (inr (inl (more, is))) = inr (inl (more, ap (λ xs. z ∷ xs) is))
+AreCuts-behind z front x other y (inr (inr (more, is))) = inr (inr (more, ap (λ xs. z ∷ xs) is))
+
+cuts : {X : Type 0} (front : List X) (x : X) (back : List X) (other : List X) (y : X) (rest : List X) → front ++ x ∷ back ≡ other ++ y ∷ rest → AreCuts front x other y
+cuts [] x back [] y rest e = inl refl
+cuts [] x back (z ∷ other) y rest e = inr (inl (other, cc))
+cuts (z ∷ front) x back [] y rest e = inr (inr (front, cc))
+cuts (z ∷ front) x back (w ∷ other) y rest e =
+    let same : z ≡ w = cc in
+    subst (λ v. AreCuts (z ∷ front) x (v ∷ other) y) same (AreCuts-behind z front x other y (cuts front x back other y rest cc))
+
+pub one_bad_line : OneBadLine
+one_bad_line mode bytes m n a b = cases (cuts a.front a.piece a.back b.front b.piece b.back (sym a.parts ∙ b.parts))
+  where
+    cases : AreCuts a.front a.piece b.front b.piece → m ≡ n
+    cases (inl same) = a.counted ∙ ap (λ k. k + 1) same ∙ sym b.counted
+    cases (inr (inl (more, is))) = absurd (behind_bad mode bytes m a b.names b.front more b.lines is b.good)
+    cases (inr (inr (more, is))) = absurd (behind_bad mode bytes n b a.names a.front more a.lines is a.good)
 
 rises : (mode : ScriptMode) (at low : ℕ) (before after : List (List ℕ)) (ps : List (List ℕ)) (lines : List ScriptLine) → low < at → AreLines mode at before ps lines after → RisesFrom low lines
 rises mode at low before after [] lines below are = subst (RisesFrom low) (sym are.0) tt

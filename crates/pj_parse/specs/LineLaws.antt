@@ -14,6 +14,10 @@ OneReading = (mode : ScriptMode) (bytes : List ℕ) (a b : Script) → IsScript 
 abbrev pub NoScriptWithABadLine : Type 0
 NoScriptWithABadLine = (mode : ScriptMode) (bytes : List ℕ) (script : Script) (number : ℕ) → IsScript mode bytes script → IsBadLine mode bytes number → ⊥
 
+-- bytes have one first bad line at most
+abbrev pub OneBadLine : Type 0
+OneBadLine = (mode : ScriptMode) (bytes : List ℕ) (m n : ℕ) → IsBadLine mode bytes m → IsBadLine mode bytes n → m ≡ n
+
 -- the numbers of the lines rise, and all are above this one
 abbrev pub RisesFrom : ℕ → List ScriptLine → Type 0
 RisesFrom low [] = Unit {0}

@@ -11,8 +11,8 @@ use Rattle.pj_parse.specs.Tokens.{Word, Number, Left, Right, Comma, Equals}
 use Rattle.pj_parse.specs.Thin.{reserved}
 use Rattle.pj_parse.specs.TokenReading.{Stream}
 
--- one reader after another, where the first finds something
 infixl 10 ◌>>=◌
+-- one reader after another, where the first finds something
 abbrev pub ◌>>=◌ : {A B : Type 0} → Option A → (A → Option B) → Option B
 (Some x) >>= f = f x
 None >>= f = None

@@ -10,8 +10,8 @@ use Rattle.pj_parse.specs.declared.lines.ScriptFault.TheVariants.{BadLine, NoMem
 use Rattle.pj_parse.specs.Bytes.{is_blank, is_small}
 use Rattle.pj_parse.specs.Lines.{pieces, is_name_byte, names_limit}
 
--- one reader after another, up to the first bad line
 infixl 10 ◌>>=◌
+-- one reader after another, up to the first bad line
 abbrev pub ◌>>=◌ : {A B : Type 0} → Result A ℕ → (A → Result B ℕ) → Result B ℕ
 (Ok x) >>= f = f x
 (Err n) >>= f = Err n

@@ -7,7 +7,9 @@ mod thin_statement;
 mod tokens;
 pub mod types;
 
-pub use lines::{ScriptFault, lines_rise, no_script_with_a_bad_line, one_reading, script};
+pub use lines::{
+    ScriptFault, lines_rise, no_script_with_a_bad_line, one_bad_line, one_reading, script,
+};
 pub use thin_statement::{ThinFault, one_thin_reading, thin};
 
 #[cfg(test)]
