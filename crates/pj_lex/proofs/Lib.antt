@@ -1,0 +1,7 @@
+pub mod BodyLaws
+pub mod BodyTokens
+pub mod SymbolFront
+pub mod TextPieces
+pub mod TokenBytes
+pub mod TokenFront
+pub mod TokenNumbers

@@ -1,0 +1,16 @@
+-- Laws of tokens.
+use Rattle.std.specs.Prelude.{◌≡◌, ℕ, List}
+use Rattle.pj_lex.specs.declared.token.Token.{Token}
+use Rattle.pj_lex.specs.Tokens.{AreTokens, BreaksAt}
+
+-- a body has its tokens in one way
+abbrev pub OneList : Type 0
+OneList = (body : List ℕ) (a b : List Token) → AreTokens body a → AreTokens body b → a ≡ b
+
+-- no body both has tokens and breaks
+abbrev pub TokensOrBreak : Type 0
+TokensOrBreak = (body : List ℕ) (tokens : List Token) (at : ℕ) → AreTokens body tokens → BreaksAt body at → ⊥
+
+-- a body breaks at one place
+abbrev pub OneBreak : Type 0
+OneBreak = (body : List ℕ) (a b : ℕ) → BreaksAt body a → BreaksAt body b → a ≡ b

@@ -1,0 +1,6 @@
+pub mod Bytes
+pub mod Tokens
+pub mod Faults
+pub mod Laws
+pub mod TokenReading
+pub mod BodyReading

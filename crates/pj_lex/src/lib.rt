@@ -1,0 +1,17 @@
+//! Cuts the body of a statement into its tokens, exactly as docs/GRAMMAR.md has them.
+#![tactic(auto)]
+
+pub mod bytes;
+mod cutting;
+mod laws;
+mod scan;
+mod stuck;
+mod texts;
+mod token;
+
+pub use cutting::{LexFault, tokens};
+pub use laws::{one_break, one_list, tokens_or_break};
+pub use token::{Symbol, Token, TokenKind};
+
+#[cfg(test)]
+mod tests;
