@@ -34,11 +34,13 @@ impl<R: Read> Source for ReaderSource<R> {
     /// Reads once, and again where a signal broke in.
     fn take(&mut self, into: &mut [u8]) -> Result<usize, Failed>
         ensures bound { ReadsAtMost result into.new }
-        ensures bytes { ReadConsumes (R.remaining self.old.inner) (R.remaining self.new.inner) result into.new }
+        ensures bytes { ReadConsumes (R.remaining self.old.inner)
+            (R.remaining self.new.inner) result into.new }
         ensures later { self.old.faults ≤ self.new.faults }
         ensures failed { OnErr result (Rose self.old.faults self.new.faults) }
 
-        ensures exact { self.new.faults ≡ (if is_err result then raised self.old.faults else self.old.faults) }
+        ensures exact { self.new.faults
+            ≡ (if is_err result then raised self.old.faults else self.old.faults) }
     {
         let result = read_through(&mut self.inner, into);
         if result.is_err() {
@@ -66,7 +68,8 @@ fn read_through<R: Read>(reader: &mut R, into: &mut [u8]) -> Result<usize, Faile
     Err(Failed)
 }
 
-/// A writer as a sink. It tells the bytes that the writer tells. What the writer holds back is flushed by its owner.
+/// A writer as a sink. It tells the bytes that the writer tells. What the writer holds back is flushed by its
+/// owner.
 #[derive(Debug, Drop)]
 pub struct WriterSink<W> {
     inner: W,
@@ -100,11 +103,13 @@ impl<W: Write> Sink for WriterSink<W> {
     fn give(&mut self, bytes: &[u8]) -> Result<usize, GiveFault>
         ensures bound { WritesAtMost result bytes.now }
         ensures some { IfOk result (λ n. 0 < length bytes.now → 0 < n) }
-        ensures bytes { WriteAppends (W.contents self.old.inner) (W.contents self.new.inner) result bytes.now }
+        ensures bytes { WriteAppends (W.contents self.old.inner)
+            (W.contents self.new.inner) result bytes.now }
         ensures later { self.old.faults ≤ self.new.faults }
         ensures failed { result ≡ Err GiveFault.Failed → Rose self.old.faults self.new.faults }
 
-        ensures exact { self.new.faults ≡ (if is_err result then raised self.old.faults else self.old.faults) }
+        ensures exact { self.new.faults
+            ≡ (if is_err result then raised self.old.faults else self.old.faults) }
         ensures memory { result ≢ Err GiveFault.NoMemory }
     {
         match write_through(&mut self.inner, bytes) {

@@ -73,7 +73,8 @@ impl Model for MemorySource {
 }
 
 impl MemorySource {
-    /// A source of these bytes. A call moves `piece` bytes at most, and `fail` lists the calls that fail, by their numbers from 1.
+    /// A source of these bytes. A call moves `piece` bytes at most, and `fail` lists the calls that fail, by
+    /// their numbers from 1.
     /// Each call looks through the whole list.
     pub fn new(bytes: Vec<u8>, piece: usize, fail: Vec<u64>) -> MemorySource
         requires { 1 ≤ piece }
@@ -100,7 +101,8 @@ impl Source for MemorySource {
         ensures later { self.old.calls.faults ≤ self.new.calls.faults }
         ensures failed { OnErr result (Rose self.old.calls.faults self.new.calls.faults) }
 
-        ensures count { IfOk result (λ n. n ≡ min (length self.old.left) (min self.old.piece (length into.old))) }
+        ensures count { IfOk result
+            (λ n. n ≡ min (length self.old.left) (min self.old.piece (length into.old))) }
         ensures due { is_err result ≡ is_due self.old.calls }
         ensures calls { self.new.calls ≡ after_call self.old.calls }
         ensures piece { self.new.piece ≡ self.old.piece }
@@ -133,7 +135,8 @@ impl Model for MemorySink {
 }
 
 impl MemorySink {
-    /// A sink that took nothing yet. A call moves `piece` bytes at most, and `fail` lists the calls that fail, by their numbers from 1.
+    /// A sink that took nothing yet. A call moves `piece` bytes at most, and `fail` lists the calls that
+    /// fail, by their numbers from 1.
     /// Each call looks through the whole list. The sink's bytes take the memory of that list's allocator.
     pub fn new(piece: usize, fail: Vec<u64>) -> MemorySink
         requires { 1 ≤ piece }

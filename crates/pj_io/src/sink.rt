@@ -12,6 +12,7 @@ pub enum GiveFault {
     /// The sink couldn't write. Its count of faults says so too.
     #[error("could not write")]
     Failed,
+    /// There was no memory for the call.
     #[error("no memory")]
     NoMemory,
 }

@@ -19,6 +19,7 @@ pub enum ReadFault {
     /// There are more bytes than the limit allows.
     #[error("too large")]
     TooLarge,
+    /// There was no memory for the bytes.
     #[error("no memory")]
     NoMemory,
 }
@@ -42,7 +43,8 @@ impl From<AllocError> for ReadFault {
 /// The most bytes that `read_all` asks for at once.
 const CHUNK: usize = 16 * 1024;
 
-/// Reads until the source ends, and never more than one byte past `limit`: that byte alone tells that there are more.
+/// Reads until the source ends, and never more than one byte past `limit`: that byte alone tells that there
+/// are more.
 pub fn read_all<R: Source>(
     alloc: Global,
     source: &mut R,
@@ -50,8 +52,10 @@ pub fn read_all<R: Source>(
 ) -> Result<Vec<u8>, ReadFault>
     ensures all { IfOk result (λ v. (length v.items ≤ limit)
         × Consumes (R.left source.old) (R.left source.new) v.items × IsAtEnd (R.left source.new)) }
-    ensures large { result ≡ Err ReadFault.TooLarge → TookTooMuch limit (R.left source.old) (R.left source.new) }
-    ensures small { (result ≡ Err ReadFault.TooLarge → ⊥) → TookAtMost limit (R.left source.old) (R.left source.new) }
+    ensures large { result ≡ Err ReadFault.TooLarge
+        → TookTooMuch limit (R.left source.old) (R.left source.new) }
+    ensures small { (result ≡ Err ReadFault.TooLarge → ⊥)
+        → TookAtMost limit (R.left source.old) (R.left source.new) }
 
     // Where the source tells its bytes, these are all of them, and the limit alone decides.
     ensures whole { IfOk result (λ v. IfSome (R.left source.old) (λ xs. v.items ≡ xs)) }
@@ -76,7 +80,8 @@ pub fn read_all<R: Source>(
     }
 }
 
-/// Hands all the bytes to the sink, piece by piece, and stops at the first call that fails. Takes no memory of its own.
+/// Hands all the bytes to the sink, piece by piece, and stops at the first call that fails. Takes no memory
+/// of its own.
 pub fn write_all<W: Sink>(sink: &mut W, bytes: &[u8]) -> Result<(), GiveFault>
     ensures all { OnOk result (Appends (W.taken sink.old) (W.taken sink.new) bytes.now) }
     ensures part { OnErr result (AppendsPart (W.taken sink.old) (W.taken sink.new) bytes.now) }

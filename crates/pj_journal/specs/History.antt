@@ -1,5 +1,7 @@
--- What a history leaves: the catalog, the blocks and rows of a table, the next number (docs/MODEL.md, "Histories").
-use Rattle.std.specs.Prelude.{◌≡◌, ◌<◌, ℕ, ◌+◌, List, [], ◌∷◌, ◌++◌, length, map, fold, ◌==◌, if◌then◌else◌, Some, slice_get, Contains}
+-- What a history leaves: the catalog, the blocks and rows of a table, the next number (docs/MODEL.md,
+-- "Histories").
+use Rattle.std.specs.Prelude.{◌≡◌, ◌<◌, ℕ, ◌+◌, List, [], ◌∷◌, ◌++◌, length, map, fold}
+use Rattle.std.specs.Prelude.{◌==◌, if◌then◌else◌, Some, slice_get, Contains}
 use Rattle.std.specs.List.{flat_map}
 use Rattle.pj_value.specs.declared.value.Kind.{Kind}
 use Rattle.pj_value.specs.declared.value.Value.{Value}
@@ -32,7 +34,8 @@ blocks_on t blocks (Created table) = blocks
 blocks_on t blocks Refused = blocks
 blocks_on t blocks (Looked table) = blocks
 blocks_on t blocks (Begun table) = blocks
-blocks_on t blocks (Inserted table block rows) = if table == t then blocks ++ record { number = block; rows = rows.rows } ∷ [] else blocks
+blocks_on t blocks (Inserted table block rows) =
+    if table == t then blocks ++ record { number = block; rows = rows.rows } ∷ [] else blocks
 
 -- the blocks of a table, in the order in which they were committed
 abbrev pub blocks : List Entry → ℕ → List Block
@@ -62,14 +65,17 @@ names tables = map (λ table. table.name) tables
 abbrev pub kinds_of : Table → List Kind
 kinds_of table = map (λ column. column.kind) table.columns
 
--- the move fits the history before it: names are new, tables are there, numbers are the next ones, rows have the kinds of their table
+-- the move fits the history before it: names are new, tables are there, numbers are the next ones, rows have
+-- the kinds of their table
 abbrev pub WhatFits : List Entry → What → Type 0
 WhatFits place (Created table) = Contains (names (catalog place)) table.name → ⊥
 WhatFits place Refused = Unit {0}
 WhatFits place (Looked table) = table < length (catalog place)
 WhatFits place (Begun table) = table < length (catalog place)
 WhatFits place (Inserted table block rows) =
-    (block ≡ next place table) × ((at : Table) × (slice_get (catalog place) table ≡ Some at) × (rows.kinds ≡ kinds_of at)) × HaveKinds rows.kinds rows.rows
+    (block ≡ next place table)
+    × ((at : Table) × (slice_get (catalog place) table ≡ Some at) × (rows.kinds ≡ kinds_of at))
+    × HaveKinds rows.kinds rows.rows
 
 -- each entry fits the history before it, `place` being that before the first
 abbrev pub IsRegularFrom : List Entry → List Entry → Type 0

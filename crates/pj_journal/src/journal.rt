@@ -15,6 +15,7 @@ pub enum MoveFault {
     /// The journal holds as many entries as its limit says.
     #[error("the journal is full")]
     Full,
+    /// There was no memory for one more entry.
     #[error("no memory")]
     NoMemory,
 }
@@ -35,7 +36,8 @@ impl From<NoMemory> for MoveFault {
     }
 }
 
-/// The history, which only grows. Contracts see its entries, its limit, and for how many more entries room was made.
+/// The history, which only grows. Contracts see its entries, its limit, and for how many more entries room
+/// was made.
 #[derive(Debug, Drop)]
 pub struct Journal {
     entries: Vec<Entry>,
@@ -53,7 +55,8 @@ impl Model for Journal {
 
     ghost view = { λ j. record { entries = j.entries.items; limit = j.limit; spare = j.spare } };
 
-    ghost invariant = { λ j. (vec_len j.entries + j.spare ≤ vec_capacity j.entries) × (vec_len j.entries + j.spare ≤ j.limit) };
+    ghost invariant = { λ j. (vec_len j.entries + j.spare ≤ vec_capacity j.entries)
+        × (vec_len j.entries + j.spare ≤ j.limit) };
 }
 
 impl Journal {
@@ -85,7 +88,8 @@ impl Journal {
         Ok(())
     }
 
-    /// Adds the entry behind the others. Room was made before, so nothing can fail here, and it takes no memory.
+    /// Adds the entry behind the others. Room was made before, so nothing can fail here, and it takes no
+    /// memory.
     pub fn add(&mut self, entry: Entry)
         requires room { 1 ≤ self.old.spare }
         ensures grown { self.new.entries ≡ self.old.entries ++ entry ∷ [] }
@@ -101,6 +105,7 @@ impl Journal {
         ensures few { length self.now.entries ≤ self.now.limit }
         ensures small { self.now.limit < 2 ^ 32 }
     {
+        // A number behind a reference is known to be in its type's range once it is read: so `small` holds.
         let _limit = self.limit;
         self.entries.as_slice()
     }

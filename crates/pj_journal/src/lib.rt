@@ -1,4 +1,5 @@
-//! The history of a server: its entries, the catalog and the rows that they leave, and the journal that keeps it.
+//! The history of a server: its entries, the catalog and the rows that they leave, and the journal that keeps
+//! it.
 #![tactic(auto)]
 
 mod catalog;

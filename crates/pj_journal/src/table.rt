@@ -1,5 +1,6 @@
 //! A table as it is defined.
 ghost use Rattle.std.specs.Prelude.{◌≡◌, IfOk};
+ghost use Rattle.pj_journal.specs.History.{kinds_of};
 
 use pj_value::{Kind, List, NoMemory, Text};
 use std::alloc::Global;
@@ -16,7 +17,7 @@ impl ColumnDef {
     pub fn duplicate(&self, alloc: Global) -> Result<ColumnDef, NoMemory>
         ensures { IfOk result (λ column. column ≡ self.now) }
     {
-        let name = Text::new(alloc, self.name.as_slice())?;
+        let name = self.name.duplicate(alloc)?;
         Ok(ColumnDef {
             name,
             kind: self.kind,
@@ -37,7 +38,7 @@ impl Table {
     pub fn duplicate(&self, alloc: Global) -> Result<Table, NoMemory>
         ensures { IfOk result (λ table. table ≡ self.now) }
     {
-        let name = Text::new(alloc, self.name.as_slice())?;
+        let name = self.name.duplicate(alloc)?;
         let columns = columns_of(alloc, self.columns.as_slice())?;
         let key = Vec::from_slice(alloc, self.key.as_slice())?;
         Ok(Table {
@@ -45,6 +46,14 @@ impl Table {
             columns,
             key: List::from_vec(key),
         })
+    }
+
+    /// The kinds of the columns, in their order.
+    pub fn kinds(&self, alloc: Global) -> Result<Vec<Kind>, NoMemory>
+        ensures { IfOk result (λ kinds. kinds.items ≡ kinds_of self.now) }
+    {
+        let columns = self.columns.as_slice();
+        Ok(columns.iter().map(|column| column.kind).collect(alloc)?)
     }
 }
 

@@ -40,6 +40,7 @@ fn a_table_is_copied_into_the_catalog(rt: HostRuntime) -> Result<(), Fail> {
     for held in catalog.tables() {
         assert!(rt; held.name.as_slice() == b"t".as_slice());
         assert!(rt; held.columns.as_slice().len() == 1 && held.key.as_slice().len() == 1);
+        assert!(rt; held.kinds(rt.alloc())?.as_slice() == [Kind::Num].as_slice());
     }
     Ok(())
 }

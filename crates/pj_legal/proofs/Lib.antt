@@ -1,8 +1,12 @@
+mod BodyLaws
 mod Histories
 mod LegalLemmas
 mod LegalNames
 mod Lines
 mod PlainReplies
+mod Refusals
 mod RunLemmas
+mod StatementNames
+mod StatementWords
 mod Tables
 mod TextLaws

@@ -1,5 +1,6 @@
 -- Tables by their names, and a table's one column.
-use Rattle.std.proofs.Common.{◌≡◌, ℕ, ◌+◌, ◌<◌, List, [], ◌∷◌, ◌++◌, length, take, get_or, Bool, eqb, Decides, Some, sym, ◌∙◌, ap, subst, ⊎_elim, arith}
+use Rattle.std.proofs.Common.{◌≡◌, ℕ, ◌+◌, ◌<◌, List, [], ◌∷◌, ◌++◌, length, take, get_or, Bool}
+use Rattle.std.proofs.Common.{eqb, Decides, Some, sym, ◌∙◌, ap, subst, ⊎_elim, arith}
 use Rattle.std.specs.List.{Contains}
 use Rattle.std.specs.Cmp.Lexicographic.{pointwise}
 use Rattle.std.proofs.lemmas.List.{map_more, length-map, get_or-map}
@@ -18,27 +19,32 @@ Decides-names r a b compared =
     let P : Bool → Type 0 = λ x. Decides x (a ≡ b) in subst P (sym compared) (bytes_eq-Decides a b)
 
 -- where a table has the name, the name is among the names
-pub Contains-at : (tables : List Table) (name : List ℕ) (place : ℕ) → IsAt tables name place → Contains (names tables) name
+pub Contains-at : (tables : List Table) (name : List ℕ) (place : ℕ) → IsAt tables name place
+    → Contains (names tables) name
 Contains-at tables name place (table, (there, named)) =
     let within : place < length tables = slice_get_within tables place table there in
     let read : get_or tables place table ≡ table = get_or_from_slice_get tables place table table there in (
       place,
       (rw (length-map tables (λ (t : Table). t.name)) within),
-      get_or-map (λ (t : Table). t.name) tables place table name within ∙ ap (λ (t : Table). t.name) read ∙ named,
+      get_or-map (λ (t : Table). t.name) tables place table name within ∙ ap (λ (t : Table). t.name) read
+          ∙ named,
     )
 
 -- the table that is read there has the name
-pub IsTableAt-read : (tables : List Table) (name : List ℕ) (place : ℕ) (table : Table) → IsAt tables name place → table ≡ get_or tables place table → IsTableAt tables name place table
+pub IsTableAt-read : (tables : List Table) (name : List ℕ) (place : ℕ) (table : Table)
+    → IsAt tables name place → table ≡ get_or tables place table → IsTableAt tables name place table
 IsTableAt-read tables name place table (other, (there, named)) read =
     let same : table ≡ other = read ∙ get_or_from_slice_get tables place other table there in
     (there ∙ ap Some (sym same), ap (λ (t : Table). t.name) same ∙ named)
 
 -- one more table that has another name
-pub IsUnknown-more : (tables : List Table) (name : List ℕ) (i : ℕ) (table : Table) → i < length tables → table ≡ get_or tables i table
+pub IsUnknown-more : (tables : List Table) (name : List ℕ) (i : ℕ) (table : Table) → i < length tables
+    → table ≡ get_or tables i table
     → (table.name ≡ name → ⊥) → IsUnknown (take i tables) name → IsUnknown (take (i + 1) tables) name
 IsUnknown-more tables name i table within read other unknown among =
     let split : names (take (i + 1) tables) ≡ names (take i tables) ++ table.name ∷ [] =
-    map_more (λ (t : Table). t.name) tables i table within ∙ ap (λ (t : Table). names (take i tables) ++ t.name ∷ []) (sym read) in
+    map_more (λ (t : Table). t.name) tables i table within
+    ∙ ap (λ (t : Table). names (take i tables) ++ t.name ∷ []) (sym read) in
     let P : List (List ℕ) → Type 0 = λ ns. Contains ns name in
     ⊎_elim unknown other (Contains-push_cases (names (take i tables)) table.name name (subst P split among))
 
@@ -49,12 +55,21 @@ one_element (y ∷ []) x one read = ap (λ z. z ∷ []) (sym read)
 one_element (y ∷ z ∷ ys) x one read = absurd (omega arith)
 
 -- with room, one column and one name in the key: whether they are the same decides
-pub Decides-created : (r : Bool) (tables : List Table) (columns : List TreeColumn) (key : List (List ℕ)) (column : TreeColumn) (name : List ℕ)
-    → length tables < 64 → columns ≡ column ∷ [] → key ≡ name ∷ [] → Decides r (column.name ≡ name) → Decides r (CanBeCreated tables columns key)
+pub Decides-created : (r : Bool) (tables : List Table) (columns : List TreeColumn) (key : List (List ℕ))
+    (column : TreeColumn) (name : List ℕ)
+    → length tables < 64 → columns ≡ column ∷ [] → key ≡ name ∷ [] → Decides r (column.name ≡ name)
+    → Decides r (CanBeCreated tables columns key)
 Decides-created r tables columns key column name room columns_are key_is same = (
-  λ is. record { column = column; room = room; one_column = columns_are; its_key = let e : column.name ≡ name = same.0 is in cc },
+  λ is. record {
+    column = column;
+    room = room;
+    one_column = columns_are;
+    its_key = let e : column.name ≡ name = same.0 is in cc;
+  },
   λ can.
-      let other : can.column ≡ column = let e : can.column ∷ [] ≡ column ∷ [] = sym can.one_column ∙ columns_are in cc in
-      let its : can.column.name ≡ name = let e : can.column.name ∷ [] ≡ name ∷ [] = sym can.its_key ∙ key_is in cc in
+      let other : can.column ≡ column =
+      let e : can.column ∷ [] ≡ column ∷ [] = sym can.one_column ∙ columns_are in cc in
+      let its : can.column.name ≡ name =
+      let e : can.column.name ∷ [] ≡ name ∷ [] = sym can.its_key ∙ key_is in cc in
       same.1 (ap (λ (c : TreeColumn). c.name) (sym other) ∙ its),
 )

@@ -4,30 +4,21 @@ use Rattle.pj_value.specs.declared.value.Kind.{Kind}
 use Rattle.pj_value.specs.declared.value.Kind.TheVariants as kinds
 use Rattle.pj_value.specs.declared.value.Value.{Value}
 use Rattle.pj_value.specs.declared.value.Value.TheVariants as values
-use Rattle.pj_value.specs.declared.value.AggKind.{AggKind}
-use Rattle.pj_value.specs.declared.value.AggKind.TheVariants as aggregates
 use Rattle.pj_value.specs.Rows.{KindedRows}
 use Rattle.pj_legal.specs.declared.query.Item.{Item}
-use Rattle.pj_legal.specs.declared.query.Item.TheVariants.{Agg}
+use Rattle.pj_legal.specs.declared.query.Item.TheVariants.{Count}
 use Rattle.pj_legal.specs.declared.query.Query.{Query}
 
--- an aggregate over the rows; the number of rows is modulo 2 ^ 64
-abbrev pub agg : AggKind → List (List Value) → Value
-agg aggregates.Count rows = values.Num (length rows % 2 ^ 64)
-
--- the kind of what an aggregate gives
-abbrev pub agg_kind : AggKind → Kind
-agg_kind aggregates.Count = kinds.Num
-
--- what an item gives over a group of rows
+-- what an item gives over a group of rows: the number of rows is modulo 2 ^ 64
 abbrev pub item_value : List (List Value) → Item → Value
-item_value rows (Agg call) = agg call.kind rows
+item_value rows Count = values.Num (length rows % 2 ^ 64)
 
 -- the kind of what an item gives
 abbrev pub item_kind : Item → Kind
-item_kind (Agg call) = agg_kind call.kind
+item_kind Count = kinds.Num
 
--- the groups of a query's rows: a query that aggregates without GROUP BY has one, of all rows, also where there is none
+-- the groups of a query's rows: a query that aggregates without GROUP BY has one, of all rows, also where
+-- there is none
 abbrev pub groups_of : Query → List (List Value) → List (List (List Value))
 groups_of query rows = rows ∷ []
 

@@ -1,5 +1,6 @@
 -- Legal histories (docs/MODEL.md, "Legal histories").
-use Rattle.std.specs.Prelude.{◌≡◌, ℕ, ◌+◌, ◌≤◌, ◌⊎◌, List, [], ◌∷◌, length, map, filter, take_while, Contains, not, ◌==◌, nat_le}
+use Rattle.std.specs.Prelude.{◌≡◌, ℕ, ◌+◌, ◌≤◌, ◌⊎◌, List, [], ◌∷◌, length, map}
+use Rattle.std.specs.Prelude.{filter, take_while, Contains, not, ◌==◌, nat_le}
 use Rattle.std.specs.List.{AllByRecursion, AllZip}
 use Rattle.pj_value.specs.Rows.{KindedRows}
 use Rattle.pj_parse.specs.declared.types.Act.{Act}
@@ -47,9 +48,12 @@ abbrev pub BoundForm : List Entry → Said → Bound → List Entry → Reply �
 BoundForm place said (bounds.Create table) added reply =
     (added ≡ entry_of said (whats.Created table) ∷ []) × (reply ≡ replies.Done)
 BoundForm place said (bounds.Insert table rows) added reply =
-    (block : ℕ) × (added ≡ entry_of said (whats.Begun table) ∷ entry_of said (whats.Inserted table block rows) ∷ []) × (reply ≡ replies.Done)
+    (block : ℕ)
+    × (added ≡ entry_of said (whats.Begun table) ∷ entry_of said (whats.Inserted table block rows) ∷ [])
+    × (reply ≡ replies.Done)
 BoundForm place said (bounds.Select table query) added reply =
-    (out : KindedRows) × Answers query (rows place table) out × (added ≡ entry_of said (whats.Looked table) ∷ []) × (reply ≡ replies.Rows out)
+    (out : KindedRows) × Answers query (rows place table) out
+    × (added ≡ entry_of said (whats.Looked table) ∷ []) × (reply ≡ replies.Rows out)
 
 -- the statement ended with its first move alone
 abbrev pub IsFirstMove : Bound → What → Type 0
@@ -67,18 +71,21 @@ IsBegun (bounds.Select table query) what = ⊥
 abbrev pub StopsAfter : (Bound → What → Type 0) → List Entry → Said → List Entry → Type 0
 StopsAfter may place said added =
     (added ≡ [])
-    ⊎ ((bound : Bound) × (what : What) × BodyBinds (catalog place) said.body bound × may bound what × (added ≡ entry_of said what ∷ []))
+    ⊎ ((bound : Bound) × (what : What) × BodyBinds (catalog place) said.body bound × may bound what
+    × (added ≡ entry_of said what ∷ []))
 
 -- the statement ended early: for want of memory, or since the journal was full at its next move
 abbrev pub EndsEarly : ℕ → List Entry → Said → List Entry → Reply → Type 0
 EndsEarly limit place said added reply =
     ((reply ≡ replies.Refused refusals.NoMemory) × StopsAfter IsFirstMove place said added)
-    ⊎ ((reply ≡ replies.Refused (refusals.Limit History)) × StopsAfter IsBegun place said added × (length place + length added ≡ limit))
+    ⊎ ((reply ≡ replies.Refused (refusals.Limit History)) × StopsAfter IsBegun place said added
+    × (length place + length added ≡ limit))
 
 -- the statement, from its place, made these moves and got this reply
 abbrev pub Form : ℕ → List Entry → Said → List Entry → Reply → Type 0
 Form limit place said added reply =
-    ((refusal : _) × BodyIsRefused (catalog place) said.body refusal × (added ≡ entry_of said whats.Refused ∷ []) × (reply ≡ replies.Refused refusal))
+    ((refusal : _) × BodyIsRefused (catalog place) said.body refusal
+    × (added ≡ entry_of said whats.Refused ∷ []) × (reply ≡ replies.Refused refusal))
     ⊎ ((bound : Bound) × BodyBinds (catalog place) said.body bound × BoundForm place said bound added reply)
     ⊎ EndsEarly limit place said added reply
 
@@ -96,7 +103,8 @@ left_by line h = filter (λ entry. nat_le entry.line line) h
 
 -- a statement that was refused for a full journal left it full
 abbrev pub LeavesFull : ℕ → List Entry → Said → Reply → Type 0
-LeavesFull limit h said reply = reply ≡ replies.Refused (refusals.Limit History) → length (left_by said.line h) ≡ limit
+LeavesFull limit h said reply =
+    reply ≡ replies.Refused (refusals.Limit History) → length (left_by said.line h) ≡ limit
 
 -- the entry is a move of one of the statements
 abbrev pub IsOwned : List Said → Entry → Type 0
@@ -107,11 +115,13 @@ abbrev pub NeverFall : ℕ → List Entry → Type 0
 NeverFall low [] = Unit {0}
 NeverFall low (entry ∷ more) = (low ≤ entry.line) × NeverFall entry.line more
 
--- the history is one of the script, with these replies to its statements in their order, in a journal of at most `limit` entries
+-- the history is one of the script, with these replies to its statements in their order, in a journal of at
+-- most `limit` entries
 pub record IsLegal (limit : ℕ) (script : Script) (h : List Entry) (said : List Reply) : Type 0 where
   pub regular : IsRegular h
   pub within : length h ≤ limit
   pub owned : AllByRecursion (IsOwned (statements script)) h
   pub order : NeverFall 0 h
-  pub answered : AllZip (λ s reply. Form limit (place_of s.line h) s (added_by s.line h) reply) (statements script) said
+  pub answered : AllZip (λ s reply. Form limit (place_of s.line h) s (added_by s.line h) reply)
+      (statements script) said
   pub full : AllZip (LeavesFull limit h) (statements script) said

@@ -10,5 +10,7 @@ pub use Rattle.pj_value.specs.Rows
 pub use Rattle.pj_value.specs.Escaping
 pub use Rattle.pj_journal.specs.History
 pub use Rattle.pj_journal.specs.Log
-pub use Rattle.pj_parse.specs.Thin
+pub use Rattle.pj_lex.specs.Tokens
+pub use Rattle.pj_parse.specs.GrammarStatements
+pub use Rattle.pj_parse.specs.Statements
 pub use Rattle.pj_parse.specs.Lines

@@ -27,4 +27,5 @@ cut n script = record script { lines = take n script.lines }
 abbrev pub RunsAreLegal : Type 0
 RunsAreLegal =
     (limit : ℕ) (script : Script) (replies : List Reply) (h : List Entry) → LinesRise 0 (statements script)
-    → Run limit [] (statements script) replies h → IsRegular h → length h ≤ limit → IsLegal limit script h replies
+    → Run limit [] (statements script) replies h → IsRegular h → length h ≤ limit
+    → IsLegal limit script h replies

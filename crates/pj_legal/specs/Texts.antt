@@ -13,7 +13,7 @@ use Rattle.pj_journal.specs.declared.entry.What.TheVariants as whats
 use Rattle.pj_journal.specs.declared.entry.Entry.{Entry}
 use Rattle.pj_journal.specs.History.{catalog, names}
 use Rattle.pj_legal.specs.declared.types.LimitName.{LimitName}
-use Rattle.pj_legal.specs.declared.types.LimitName.TheVariants.{History}
+use Rattle.pj_legal.specs.declared.types.LimitName.TheVariants as limits
 use Rattle.pj_legal.specs.declared.types.Refusal.{Refusal}
 use Rattle.pj_legal.specs.declared.types.Refusal.TheVariants as refusals
 use Rattle.pj_legal.specs.declared.reply.Reply.{Reply}
@@ -31,10 +31,13 @@ row_text row = join_with_byte 9 (map value_text row)
 
 -- the name of a limit
 abbrev pub limit_text : LimitName → List ℕ
-limit_text History = codes "HISTORY"
+limit_text limits.Tokens = codes "TOKENS"
+limit_text limits.Text = codes "TEXT"
+limit_text limits.History = codes "HISTORY"
 
 -- a refusal
 abbrev pub refusal_text : Refusal → List ℕ
+refusal_text (refusals.Syntax at) = codes "SYNTAX_ERROR " ++ decimal at
 refusal_text (refusals.Limit limit) = codes "LIMIT " ++ limit_text limit
 refusal_text (refusals.UnknownTable name) = codes "UNKNOWN_TABLE " ++ name
 refusal_text (refusals.TableExists name) = codes "TABLE_ALREADY_EXISTS " ++ name
@@ -70,7 +73,8 @@ name_at names number = slice_index_or names number []
 abbrev pub texts_of : List (List ℕ) → List Said → List Reply → List ℕ
 texts_of names [] more = []
 texts_of names (said ∷ saids) [] = []
-texts_of names (said ∷ saids) (reply ∷ more) = reply_text said.line (name_at names said.session) reply ++ texts_of names saids more
+texts_of names (said ∷ saids) (reply ∷ more) =
+    reply_text said.line (name_at names said.session) reply ++ texts_of names saids more
 
 -- the replies of a script
 abbrev pub replies_text : Script → List Reply → List ℕ
@@ -92,13 +96,17 @@ what_text tables (whats.Inserted table block rows) =
 -- the line of an entry: its number, its actor, its line, and what it did
 unfoldable pub entry_text : List (List ℕ) → ℕ → List (List ℕ) → Entry → List ℕ
 entry_text sessions number tables entry =
-    as_line (decimal number ++ (32 ∷ (actor_text sessions entry.actor ++ (32 ∷ (decimal entry.line ++ (32 ∷ what_text tables entry.what))))))
+    as_line (decimal number ++
+    (32
+    ∷ (actor_text sessions entry.actor ++
+    (32 ∷ (decimal entry.line ++ (32 ∷ what_text tables entry.what))))))
 
 -- the lines of entries, `place` being the history before the first
 abbrev pub entries_text : List (List ℕ) → List Entry → List Entry → List ℕ
 entries_text sessions place [] = []
 entries_text sessions place (entry ∷ more) =
-    entry_text sessions (length place + 1) (names (catalog place)) entry ++ entries_text sessions (place ++ entry ∷ []) more
+    entry_text sessions (length place + 1) (names (catalog place)) entry ++ entries_text sessions
+    (place ++ entry ∷ []) more
 
 -- the text of a history
 abbrev pub history_text : List (List ℕ) → List Entry → List ℕ

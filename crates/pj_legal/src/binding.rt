@@ -1,15 +1,17 @@
 //! Binding: a statement's names become numbers, and its rows get the kinds of their table.
-ghost use Rattle.std.specs.Prelude.{◌≡◌, ◌≤◌, ◌↔◌, List, length, map, IfOk, IfErr, IsTrue, MatchOption};
+ghost use Rattle.std.specs.Prelude.{◌≡◌, ◌≤◌, ◌↔◌, List, [], None, length, map};
+ghost use Rattle.std.specs.Prelude.{IfOk, IfErr, IsTrue, MatchOption, OnOk};
 ghost use Rattle.pj_value.specs.Rows.{HaveKinds};
-ghost use Rattle.pj_legal.specs.Binding.{IsBound, IsUnknown, CanBeCreated, column_of, item_of};
-ghost use Rattle.pj_legal.specs.Faults.{IsBindFault, IsAt};
+ghost use Rattle.pj_legal.specs.Binding.{IsBuilt, IsBound, IsUnknown, CanBeCreated, column_of, table_of};
+ghost use Rattle.pj_legal.specs.Faults.{IsBindFault, IsBuiltFault, IsAt};
 ghost use Rattle.pj_legal.specs.declared.binding.BindFault.TheVariants as faults;
 
-use crate::query::{AggCall, Item, Query};
+use crate::built::is_built;
+use crate::query::{Item, Query};
 use crate::types::{Bound, Refusal};
 use pj_journal::types::Catalog;
 use pj_journal::{ColumnDef, TABLES, Table};
-use pj_parse::types::{Listed, Statement, TreeColumn, TreeItem, TreeSelect};
+use pj_parse::types::{Statement, TreeColumn, TreeSelect};
 use pj_value::{Kind, List, NoMemory, PushFault, Rows, Text, Value};
 use std::alloc::{AllocError, AllocFailed, Global};
 use thiserror::Error;
@@ -49,18 +51,35 @@ impl<T: Drop> From<AllocFailed<T>> for BindFault {
     }
 }
 
-/// The bound statement for these tables, or its first refusal. Takes time linear in the statement and the tables.
+/// The bound statement for these tables, or its first refusal. Takes time linear in the statement and the
+/// tables.
 pub fn bind(alloc: Global, statement: &Statement, catalog: &Catalog) -> Result<Bound, BindFault>
-    ensures bound { IfOk result (λ bound. IsBound catalog.now statement.now bound) }
+    ensures built { OnOk result (IsBuilt statement.now) }
+    ensures bound { IfOk result (IsBound catalog.now statement.now) }
     ensures refused { IfErr result (IsBindFault catalog.now statement.now) }
 {
-    let tables = catalog.tables();
+    if !is_built(statement) {
+        return Err(BindFault::Refused(Refusal::NotBuilt));
+    }
+    bind_built(alloc, statement, catalog.tables())
+}
+
+fn bind_built(alloc: Global, statement: &Statement, tables: &[Table]) -> Result<Bound, BindFault>
+    requires built { IsBuilt statement.now }
+    requires few { length tables.now ≤ TABLES }
+    ensures bound { IfOk result (IsBound tables.now statement.now) }
+    ensures refused { IfErr result (IsBuiltFault tables.now statement.now) }
+{
     match statement {
-        Statement::Create { name, columns, key } => {
-            create(alloc, tables, name, columns.as_slice(), key.as_slice())
-        }
-        Statement::Insert { table, rows } => insert(alloc, tables, table, rows.as_slice()),
+        Statement::Create {
+            name,
+            columns,
+            key,
+            ..
+        } => create(alloc, tables, name, columns.as_slice(), key.as_slice()),
+        Statement::Insert { table, rows, .. } => insert(alloc, tables, table, rows.as_slice()),
         Statement::Select(select) => select_from(alloc, tables, select),
+        _ => unreachable!(),
     }
 }
 
@@ -72,24 +91,31 @@ fn create(
     key: &[Text],
 ) -> Result<Bound, BindFault>
     requires { length tables.now ≤ TABLES }
-    ensures bound { IfOk result (IsBound tables.now (Statement.Create name.now columns.now key.now)) }
-    ensures refused { IfErr result (IsBindFault tables.now (Statement.Create name.now columns.now key.now)) }
+    ensures bound { IfOk result (IsBound tables.now (Statement.Create name.now columns.now [] key.now [])) }
+    ensures refused { IfErr result (IsBuiltFault tables.now (Statement.Create name.now columns.now [] key.now [])) }
 {
     if let Some(_) = place_of(tables, name) {
-        let name = Text::new(alloc, name.as_slice())?;
+        let name = name.duplicate(alloc)?;
         return Err(BindFault::Refused(Refusal::TableExists(name)));
     }
     if !can_be_created(tables, columns, key) {
         return Err(BindFault::Refused(Refusal::NotBuilt));
     }
-    let name = Text::new(alloc, name.as_slice())?;
+    Ok(Bound::Create(table_of(alloc, name, columns)?))
+}
+
+/// The table of these columns, the first of which is its key.
+fn table_of(alloc: Global, name: &Text, columns: &[TreeColumn]) -> Result<Table, NoMemory>
+    ensures { IfOk result (λ table. table ≡ table_of name.now columns.now) }
+{
+    let name = name.duplicate(alloc)?;
     let columns = columns_of(alloc, columns)?;
     let key = Vec::from_slice(alloc, &[0usize])?;
-    Ok(Bound::Create(Table {
+    Ok(Table {
         name,
         columns,
         key: List::from_vec(key),
-    }))
+    })
 }
 
 fn can_be_created(tables: &[Table], columns: &[TreeColumn], key: &[Text]) -> bool
@@ -117,7 +143,7 @@ fn columns_of(alloc: Global, columns: &[TreeColumn]) -> Result<List<ColumnDef>, 
 fn defined(alloc: Global, column: &TreeColumn) -> Result<ColumnDef, NoMemory>
     ensures { IfOk result (λ def. def ≡ column_of column.now) }
 {
-    let name = Text::new(alloc, column.name.as_slice())?;
+    let name = column.name.duplicate(alloc)?;
     Ok(ColumnDef {
         name,
         kind: column.kind,
@@ -131,14 +157,14 @@ fn insert(
     rows: &[List<Value>],
 ) -> Result<Bound, BindFault>
     requires { length tables.now ≤ TABLES }
-    ensures bound { IfOk result (IsBound tables.now (Statement.Insert name.now rows.now)) }
-    ensures refused { IfErr result (IsBindFault tables.now (Statement.Insert name.now rows.now)) }
+    ensures bound { IfOk result (IsBound tables.now (Statement.Insert name.now None rows.now)) }
+    ensures refused { IfErr result (IsBuiltFault tables.now (Statement.Insert name.now None rows.now)) }
 {
     let Some(place) = place_of(tables, name) else {
-        let name = Text::new(alloc, name.as_slice())?;
+        let name = name.duplicate(alloc)?;
         return Err(BindFault::Refused(Refusal::UnknownTable(name)));
     };
-    let kinds = kinds_of_columns(alloc, tables[place].columns.as_slice())?;
+    let kinds = tables[place].kinds(alloc)?;
     match rows_of(alloc, kinds.as_slice(), rows) {
         Ok(rows) => Ok(Bound::Insert {
             table: place as u32,
@@ -149,25 +175,17 @@ fn insert(
     }
 }
 
-fn kinds_of_columns(alloc: Global, columns: &[ColumnDef]) -> Result<Vec<Kind>, NoMemory>
-    ensures { IfOk result (λ kinds. kinds.items ≡ map (λ column. column.kind) columns.now) }
-{
-    let mut kinds = Vec::with_capacity(alloc, columns.len())?;
-    'columns: for column in columns {
-        kinds.push(column.kind)?;
-    }
-    Ok(kinds)
-}
-
 /// The rows with these kinds. WrongShape exactly where a row has others.
 fn rows_of(alloc: Global, kinds: &[Kind], rows: &[List<Value>]) -> Result<Rows, PushFault>
-    ensures rows { IfOk result (λ made. (made ≡ record { kinds = kinds.now; rows = rows.now }) × HaveKinds kinds.now rows.now) }
+    ensures rows { IfOk result
+        (λ made. (made ≡ record { kinds = kinds.now; rows = rows.now }) × HaveKinds kinds.now rows.now) }
     ensures shape { result ≡ Err PushFault.WrongShape → HaveKinds kinds.now rows.now → ⊥ }
 {
     let mut made = Rows::new(alloc, kinds)?;
     'rows: for row in rows {
         made.push(row.as_slice())?;
     }
+    // The call says that each row has the kinds.
     let _ = made.kinds();
     Ok(made)
 }
@@ -175,28 +193,19 @@ fn rows_of(alloc: Global, kinds: &[Kind], rows: &[List<Value>]) -> Result<Rows, 
 fn select_from(alloc: Global, tables: &[Table], select: &TreeSelect) -> Result<Bound, BindFault>
     requires { length tables.now ≤ TABLES }
     ensures bound { IfOk result (IsBound tables.now (Statement.Select select.now)) }
-    ensures refused { IfErr result (IsBindFault tables.now (Statement.Select select.now)) }
+    ensures refused { IfErr result (IsBuiltFault tables.now (Statement.Select select.now)) }
 {
     let Some(place) = place_of(tables, &select.table) else {
-        let name = Text::new(alloc, select.table.as_slice())?;
+        let name = select.table.duplicate(alloc)?;
         return Err(BindFault::Refused(Refusal::UnknownTable(name)));
     };
-    let items = items_of(alloc, select.items.as_slice())?;
+    let items = vec![in alloc; Item::Count]?;
     Ok(Bound::Select {
         table: place as u32,
-        query: Query { items },
+        query: Query {
+            items: List::from_vec(items),
+        },
     })
-}
-
-fn items_of(alloc: Global, listed: &[Listed]) -> Result<List<Item>, NoMemory>
-    ensures { IfOk result (λ items. items ≡ map item_of listed.now) }
-{
-    let mut items = Vec::with_capacity(alloc, listed.len())?;
-    'items: for one in listed {
-        let TreeItem::Call(kind) = one.item;
-        items.push(Item::Agg(AggCall { kind }))?;
-    }
-    Ok(List::from_vec(items))
 }
 
 /// The number of the table of this name.

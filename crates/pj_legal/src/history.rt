@@ -1,6 +1,7 @@
 //! The text of a history.
 ghost use Rattle.std.specs.Prelude.{◌≡◌, ◌++◌, map, IfOk, OnOk};
-ghost use Rattle.pj_legal.specs.Texts.{history_text as text_of_history, entry_text, actor_text, what_text, name_at};
+ghost use Rattle.pj_legal.specs.Texts.{history_text as text_of_history, entry_text};
+ghost use Rattle.pj_legal.specs.Texts.{actor_text, what_text, name_at};
 
 use crate::bytes::{put, put_number};
 use pj_journal::{Actor, Entry, Journal, What};
@@ -8,8 +9,10 @@ use pj_parse::types::Script;
 use pj_value::{NoMemory, Text};
 use std::alloc::Global;
 
-/// The text of the journal's history, with the names of the script's sessions: how many entries there are, and a
-/// line for each. An entry names its table by the catalog of its own place. Takes time and memory linear in the
+/// The text of the journal's history, with the names of the script's sessions: how many entries there are,
+/// and a
+/// line for each. An entry names its table by the catalog of its own place. Takes time and memory linear in
+/// the
 /// history.
 pub fn history_text(alloc: Global, script: &Script, journal: &Journal) -> Result<Text, NoMemory>
     ensures { IfOk result (λ text. text ≡ text_of_history script.now.names journal.now.entries) }
@@ -37,7 +40,8 @@ fn put_entry(
     tables: &[&Text],
     entry: &Entry,
 ) -> Result<(), NoMemory>
-    ensures { OnOk result (out.new.items ≡ out.old.items ++ entry_text names.now number (map (λ t. t.now) tables.now) entry.now) }
+    ensures { OnOk result
+        (out.new.items ≡ out.old.items ++ entry_text names.now number (map (λ t. t.now) tables.now) entry.now) }
 {
     put_number(out, number)?;
     out.push(b' ')?;
@@ -68,7 +72,8 @@ fn put_name(out: &mut Vec<u8>, names: &[Text], number: u32) -> Result<(), NoMemo
 }
 
 fn put_what(out: &mut Vec<u8>, tables: &[&Text], what: &What) -> Result<(), NoMemory>
-    ensures { OnOk result (out.new.items ≡ out.old.items ++ what_text (map (λ t. t.now) tables.now) what.now) }
+    ensures { OnOk result
+        (out.new.items ≡ out.old.items ++ what_text (map (λ t. t.now) tables.now) what.now) }
 {
     match what {
         What::Created(table) => {

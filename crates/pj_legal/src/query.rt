@@ -1,16 +1,11 @@
 //! A query over the rows of a table, with numbers in the place of names.
-use pj_value::{AggKind, List};
-
-/// A call of an aggregate function.
-#[derive(Clone, Copy, Debug, PartialEq, Eq)]
-pub struct AggCall {
-    pub kind: AggKind,
-}
+use pj_value::List;
 
 /// What a SELECT answers in one column.
 #[derive(Clone, Copy, Debug, PartialEq, Eq)]
 pub enum Item {
-    Agg(AggCall),
+    /// `count()`: the number of rows, modulo 2^64.
+    Count,
 }
 
 /// A query. Each item is a column of the answer, in their order.

@@ -3,7 +3,8 @@ ghost use Rattle.std.specs.Prelude.{◌≡◌, ◌<◌, ◌∷◌, ◌++◌, [],
 ghost use Rattle.std.specs.List.{flat_map, join_with_byte};
 ghost use Rattle.std.specs.Fmt.{decimal};
 ghost use Rattle.pj_value.specs.Values.{value_of};
-ghost use Rattle.pj_legal.specs.Texts.{value_text, row_text, refusal_text, announced, following, as_line, reply_text as text_of_reply};
+ghost use Rattle.pj_legal.specs.Texts.{value_text, row_text, refusal_text, announced, following};
+ghost use Rattle.pj_legal.specs.Texts.{as_line, reply_text as text_of_reply};
 
 use crate::bytes::{put, put_number};
 use crate::types::{LimitName, Refusal};
@@ -21,7 +22,8 @@ pub enum Reply {
     Refused(Refusal),
 }
 
-/// The text of a reply to the statement of this line, of the session of this name: one line, and then the lines
+/// The text of a reply to the statement of this line, of the session of this name: one line, and then the
+/// lines
 /// that it announces. Takes time and memory linear in the text.
 #[tactic(auto, unfolding(crate::specs::Texts::reply_text))]
 pub fn reply_text(alloc: Global, line: u32, name: &Text, reply: &Reply) -> Result<Text, NoMemory>
@@ -43,10 +45,7 @@ fn put_announced(out: &mut Vec<u8>, reply: &Reply) -> Result<(), NoMemory>
 {
     match reply {
         Reply::Done => put(out, b"ok"),
-        Reply::Rows(rows) => {
-            put(out, b"rows ")?;
-            put_number(out, rows.len() as u64)
-        }
+        Reply::Rows(rows) => put_counted(out, b"rows ", rows.len() as u64),
         Reply::Refused(refusal) => put_refusal(out, refusal),
     }
 }
@@ -55,12 +54,22 @@ fn put_refusal(out: &mut Vec<u8>, refusal: &Refusal) -> Result<(), NoMemory>
     ensures { OnOk result (out.new.items ≡ out.old.items ++ refusal_text refusal.now) }
 {
     match refusal {
+        Refusal::Syntax(at) => put_counted(out, b"SYNTAX_ERROR ", *at as u64),
+        Refusal::Limit(LimitName::Tokens) => put(out, b"LIMIT TOKENS"),
+        Refusal::Limit(LimitName::Text) => put(out, b"LIMIT TEXT"),
         Refusal::Limit(LimitName::History) => put(out, b"LIMIT HISTORY"),
         Refusal::UnknownTable(name) => put_named(out, b"UNKNOWN_TABLE ", name),
         Refusal::TableExists(name) => put_named(out, b"TABLE_ALREADY_EXISTS ", name),
         Refusal::NotBuilt => put(out, b"NOT_BUILT"),
         Refusal::NoMemory => put(out, b"NO_MEMORY"),
     }
+}
+
+fn put_counted(out: &mut Vec<u8>, words: &[u8], n: u64) -> Result<(), NoMemory>
+    ensures { OnOk result (out.new.items ≡ out.old.items ++ (words.now ++ decimal n)) }
+{
+    put(out, words)?;
+    put_number(out, n)
 }
 
 fn put_named(out: &mut Vec<u8>, words: &[u8], name: &Text) -> Result<(), NoMemory>

@@ -1,64 +1,40 @@
 -- Runs of bytes that pass a test, and what stands between the blanks at both ends.
-use Rattle.std.proofs.Common.{◌≡◌, ◌≢◌, ℕ, suc, ◌+◌, ◌-◌, Bool, true, false, cond, List, [], ◌∷◌, ◌++◌, length, take, drop, reverse, refl, sym, ap, subst, ◌∙◌, arith}
+use Rattle.std.proofs.Common.{◌≡◌, ◌≢◌, ℕ, ◌-◌, Bool, false, List, [], ◌∷◌, ◌++◌}
+use Rattle.std.proofs.Common.{length, take, drop, reverse, refl, sym, ap, subst, ◌∙◌, arith}
 use mathlib.Core.List.{reverse_aux}
 use Rattle.std.specs.List.{prefix_len}
-use Rattle.std.proofs.lemmas.List.{take_at, drop_at, take-append-drop, length-drop, length-reverse, reverse-append, reverse-reverse}
-use Rattle.pj_parse.specs.Bytes.{is_blank, AllAre, IsBlank}
+use Rattle.std.proofs.lemmas.List.{take_at, drop_at, take-append-drop, length-drop}
+use Rattle.std.proofs.lemmas.List.{length-reverse, reverse-append, reverse-reverse}
+use Rattle.pj_lex.specs.Bytes.{is_blank, AllAre, IsBlank}
+use Rattle.pj_lex.specs.Tokens.{StopsAt}
+use Rattle.pj_lex.proofs.TokenBytes.{run_passes, run_stops, run_is}
 use Rattle.pj_parse.specs.Lines.{IsTrimmed}
 use Rattle.pj_parse.specs.ReadingLines.{behind_blanks, before_blanks}
 
--- the first byte, if there is one, fails the test
-abbrev pub Stops : (ℕ → Bool) → List ℕ → Type 0
-Stops test [] = Unit {0}
-Stops test (b ∷ bs) = test b ≡ false
-
-AllAre-reverse_aux : (test : ℕ → Bool) (xs ys : List ℕ) → AllAre test xs → AllAre test ys → AllAre test (reverse_aux xs ys)
+AllAre-reverse_aux : (test : ℕ → Bool) (xs ys : List ℕ) → AllAre test xs → AllAre test ys
+    → AllAre test (reverse_aux xs ys)
 AllAre-reverse_aux test [] ys all others = others
 AllAre-reverse_aux test (x ∷ xs) ys all others = AllAre-reverse_aux test xs (x ∷ ys) all.1 (all.0, others)
 
 pub AllAre-reverse : (test : ℕ → Bool) (xs : List ℕ) → AllAre test xs → AllAre test (reverse xs)
 AllAre-reverse test xs all = AllAre-reverse_aux test xs [] all tt
 
-AllAre-cons : (test : ℕ → Bool) (b : ℕ) (bs : List ℕ) (passes : Bool) → test b ≡ passes → AllAre test (take (prefix_len test bs) bs)
-    → AllAre test (take (cond passes (1 + prefix_len test bs) 0) (b ∷ bs))
-AllAre-cons test b bs true e more = let one : 1 + prefix_len test bs ≡ suc (prefix_len test bs) = omega arith in rw one (e, more)
-AllAre-cons test b bs false e more = tt
-
--- the run at the front passes
-pub AllAre-prefix : (test : ℕ → Bool) (bytes : List ℕ) → AllAre test (take (prefix_len test bytes) bytes)
-AllAre-prefix test [] = tt
-AllAre-prefix test (b ∷ bs) = AllAre-cons test b bs (test b) refl (AllAre-prefix test bs)
-
-Stops-cons : (test : ℕ → Bool) (b : ℕ) (bs : List ℕ) (passes : Bool) → test b ≡ passes → Stops test (drop (prefix_len test bs) bs)
-    → Stops test (drop (cond passes (1 + prefix_len test bs) 0) (b ∷ bs))
-Stops-cons test b bs true e more = let one : 1 + prefix_len test bs ≡ suc (prefix_len test bs) = omega arith in rw one more
-Stops-cons test b bs false e more = e
-
--- and what stands behind it doesn't go on
-pub Stops-drop : (test : ℕ → Bool) (bytes : List ℕ) → Stops test (drop (prefix_len test bytes) bytes)
-Stops-drop test [] = tt
-Stops-drop test (b ∷ bs) = Stops-cons test b bs (test b) refl (Stops-drop test bs)
-
--- a run ends where the next byte fails
-pub prefix_len-stops : (test : ℕ → Bool) (xs ys : List ℕ) → AllAre test xs → Stops test ys → prefix_len test (xs ++ ys) ≡ length xs
-prefix_len-stops test [] [] all stops = refl
-prefix_len-stops test [] (y ∷ ys) all stops = rw stops refl
-prefix_len-stops test (x ∷ xs) ys all stops = rw all.0 (omega (arith, prefix_len-stops test xs ys all.1 stops))
-
-pub behind_blanks-is : (blanks more : List ℕ) → IsBlank blanks → Stops is_blank more → behind_blanks (blanks ++ more) ≡ more
-behind_blanks-is blanks more all stops = rw (prefix_len-stops is_blank blanks more all stops) (drop_at blanks more (length blanks) refl)
+pub behind_blanks-is : (blanks more : List ℕ) → IsBlank blanks → StopsAt is_blank more
+    → behind_blanks (blanks ++ more) ≡ more
+behind_blanks-is blanks more all stops =
+    rw (run_is is_blank blanks more all stops) (drop_at blanks more (length blanks) refl)
 
 -- the bytes are blanks, and then what stands behind them
 pub record IsFront (bytes blanks more : List ℕ) : Type 0 where
   pub parts : bytes ≡ blanks ++ more
   pub blank : IsBlank blanks
-  pub stops : Stops is_blank more
+  pub stops : StopsAt is_blank more
 
 pub front_of : (bytes : List ℕ) → IsFront bytes (take (prefix_len is_blank bytes) bytes) (behind_blanks bytes)
 front_of bytes = record {
   parts = sym (take-append-drop (prefix_len is_blank bytes) bytes);
-  blank = AllAre-prefix is_blank bytes;
-  stops = Stops-drop is_blank bytes;
+  blank = run_passes is_blank bytes;
+  stops = run_stops is_blank bytes;
 }
 
 -- blanks at the end are blanks at the front of the bytes from the back
@@ -66,9 +42,13 @@ pub before_blanks-reverse : (bytes : List ℕ) → before_blanks bytes ≡ rever
 before_blanks-reverse bytes =
     let back = reverse bytes in
     let n = prefix_len is_blank back in
-    let whole : bytes ≡ reverse (drop n back) ++ reverse (take n back) = sym (reverse-reverse bytes) ∙ ap reverse (sym (take-append-drop n back)) ∙ reverse-append (take n back) (drop n back) in
-    let count : length (reverse (drop n back)) ≡ length bytes - n = omega (arith, length-reverse (drop n back), length-drop n back, length-reverse bytes) in
-    ap (take (length bytes - n)) whole ∙ take_at (reverse (drop n back)) (reverse (take n back)) (length bytes - n) count
+    let whole : bytes ≡ reverse (drop n back) ++ reverse (take n back) =
+    sym (reverse-reverse bytes) ∙ ap reverse (sym (take-append-drop n back))
+    ∙ reverse-append (take n back) (drop n back) in
+    let count : length (reverse (drop n back)) ≡ length bytes - n =
+    omega (arith, length-reverse (drop n back), length-drop n back, length-reverse bytes) in
+    ap (take (length bytes - n)) whole
+    ∙ take_at (reverse (drop n back)) (reverse (take n back)) (length bytes - n) count
 
 -- what stands between the blanks at both ends
 pub record IsMiddle (bytes left body right : List ℕ) : Type 0 where
@@ -84,15 +64,18 @@ reverse-last front b = reverse-append front (b ∷ [])
 pub reverse-first : (b : ℕ) (bs : List ℕ) → reverse (b ∷ bs) ≡ reverse bs ++ b ∷ []
 reverse-first b bs = reverse-append (b ∷ []) bs
 
-first_of_middle : (body right : List ℕ) → Stops is_blank (body ++ right) → body ≢ [] → (b : ℕ) × (more : List ℕ) × (body ≡ b ∷ more) × (is_blank b ≡ false)
+first_of_middle : (body right : List ℕ) → StopsAt is_blank (body ++ right) → body ≢ []
+    → (b : ℕ) × (more : List ℕ) × (body ≡ b ∷ more) × (is_blank b ≡ false)
 first_of_middle [] right stops some = absurd (some refl)
 first_of_middle (b ∷ more) right stops some = (b, more, refl, stops)
 
-last_of_middle : (back : List ℕ) → Stops is_blank back → reverse back ≢ [] → (front : List ℕ) × (b : ℕ) × (reverse back ≡ front ++ b ∷ []) × (is_blank b ≡ false)
+last_of_middle : (back : List ℕ) → StopsAt is_blank back → reverse back ≢ []
+    → (front : List ℕ) × (b : ℕ) × (reverse back ≡ front ++ b ∷ []) × (is_blank b ≡ false)
 last_of_middle [] stops some = absurd (some refl)
 last_of_middle (b ∷ more) stops some = (reverse more, b, reverse-first b more, stops)
 
-pub middle_of : (bytes : List ℕ) → (left : List ℕ) × (right : List ℕ) × IsMiddle bytes left (before_blanks (behind_blanks bytes)) right
+pub middle_of : (bytes : List ℕ)
+    → (left : List ℕ) × (right : List ℕ) × IsMiddle bytes left (before_blanks (behind_blanks bytes)) right
 middle_of bytes =
     let front = front_of bytes in
     let behind = behind_blanks bytes in
@@ -102,7 +85,9 @@ middle_of bytes =
     let body = before_blanks behind in
     let body-is : body ≡ reverse (behind_blanks (reverse behind)) = before_blanks-reverse behind in
     let whole : behind ≡ body ++ right =
-    sym (reverse-reverse behind) ∙ ap reverse back.parts ∙ reverse-append (take (prefix_len is_blank (reverse behind)) (reverse behind)) (behind_blanks (reverse behind))
+    sym (reverse-reverse behind) ∙ ap reverse back.parts
+    ∙ reverse-append (take (prefix_len is_blank (reverse behind)) (reverse behind))
+    (behind_blanks (reverse behind))
     ∙ ap (λ (x : List ℕ). x ++ right) (sym body-is) in (
       left,
       right,
@@ -111,25 +96,31 @@ middle_of bytes =
         left_blank = front.blank;
         right_blank = AllAre-reverse is_blank _ back.blank;
         trimmed = λ some. (
-          first_of_middle body right (subst (Stops is_blank) whole front.stops) some,
-          subst (λ (x : List ℕ). (front : List ℕ) × (b : ℕ) × (x ≡ front ++ b ∷ []) × (is_blank b ≡ false)) (sym body-is) (last_of_middle (behind_blanks (reverse behind)) back.stops (λ none. some (body-is ∙ none))),
+          first_of_middle body right (subst (StopsAt is_blank) whole front.stops) some,
+          subst (λ (x : List ℕ). (front : List ℕ) × (b : ℕ) × (x ≡ front ++ b ∷ []) × (is_blank b ≡ false))
+              (sym body-is)
+              (last_of_middle (behind_blanks (reverse behind)) back.stops (λ none. some (body-is ∙ none))),
         );
       },
     )
 
-Stops-first : (body right : List ℕ) → IsTrimmed body → Stops is_blank (body ++ right)
+Stops-first : (body right : List ℕ) → IsTrimmed body → StopsAt is_blank (body ++ right)
 Stops-first body right trimmed =
     let b = trimmed.0.0 in
     let more = trimmed.0.1 in
     rw trimmed.0.2 trimmed.0.3
 
-Stops-last : (body : List ℕ) → IsTrimmed body → Stops is_blank (reverse body)
+Stops-last : (body : List ℕ) → IsTrimmed body → StopsAt is_blank (reverse body)
 Stops-last body trimmed = rw (trimmed.1.2, reverse-last) trimmed.1.3
 
 -- a middle is found between blanks
-pub middle-is : (left body right : List ℕ) → IsBlank left → IsTrimmed body → IsBlank right → before_blanks (behind_blanks (left ++ (body ++ right))) ≡ body
+pub middle-is : (left body right : List ℕ) → IsBlank left → IsTrimmed body → IsBlank right
+    → before_blanks (behind_blanks (left ++ (body ++ right))) ≡ body
 middle-is left body right left_blank trimmed right_blank =
-    let behind : behind_blanks (left ++ (body ++ right)) ≡ body ++ right = behind_blanks-is left (body ++ right) left_blank (Stops-first body right trimmed) in
+    let behind : behind_blanks (left ++ (body ++ right)) ≡ body ++ right =
+    behind_blanks-is left (body ++ right) left_blank (Stops-first body right trimmed) in
     let back : behind_blanks (reverse (body ++ right)) ≡ reverse body =
-    ap behind_blanks (reverse-append body right) ∙ behind_blanks-is (reverse right) (reverse body) (AllAre-reverse is_blank right right_blank) (Stops-last body trimmed) in
+    ap behind_blanks (reverse-append body right)
+    ∙ behind_blanks-is (reverse right) (reverse body) (AllAre-reverse is_blank right right_blank)
+    (Stops-last body trimmed) in
     ap before_blanks behind ∙ before_blanks-reverse (body ++ right) ∙ ap reverse back ∙ reverse-reverse body

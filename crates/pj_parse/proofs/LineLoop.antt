@@ -1,5 +1,6 @@
 -- Reading lines one after the other, as the loop does.
-use Rattle.std.proofs.Common.{◌≡◌, ℕ, ◌+◌, List, [], ◌∷◌, ◌++◌, Option, option_to_list, Result, Ok, Err, refl, sym, ap, ◌∙◌, append_assoc}
+use Rattle.std.proofs.Common.{◌≡◌, ℕ, ◌+◌, List, [], ◌∷◌, ◌++◌, Option, option_to_list}
+use Rattle.std.proofs.Common.{Result, Ok, Err, refl, sym, ap, ◌∙◌, append_assoc}
 use Rattle.std.proofs.lemmas.List.{append-nil}
 use Rattle.pj_parse.specs.declared.types.ScriptMode.{ScriptMode}
 use Rattle.pj_parse.specs.declared.types.ScriptLine.{ScriptLine}
@@ -20,22 +21,32 @@ pub with_front-nil : (read : Read) → with_front [] read ≡ read
 with_front-nil (Ok x) = refl
 with_front-nil (Err n) = refl
 
-with_front-append : (front more : List ScriptLine) (read : Read) → with_front front (read >>= λ y. Ok (y.0, more ++ y.1)) ≡ with_front (front ++ more) read
-with_front-append front more (Ok x) = ap (λ (ls : List ScriptLine). Ok (x.0, ls)) (sym (append_assoc front more x.1))
+with_front-append : (front more : List ScriptLine) (read : Read)
+    → with_front front (read >>= λ y. Ok (y.0, more ++ y.1)) ≡ with_front (front ++ more) read
+with_front-append front more (Ok x) =
+    ap (λ (ls : List ScriptLine). Ok (x.0, ls)) (sym (append_assoc front more x.1))
 with_front-append front more (Err n) = refl
 
 -- a piece is read
-pub with_front-read : (mode : ScriptMode) (at : ℕ) (names after : List (List ℕ)) (front : List ScriptLine) (rest piece behind : List ℕ) (line : Option ScriptLine) (whole : Read)
-    → with_front front (lines_at mode at names (pieces rest)) ≡ whole → pieces rest ≡ piece ∷ pieces behind → line_at mode at names piece ≡ Ok (after, line)
+pub with_front-read : (mode : ScriptMode) (at : ℕ) (names after : List (List ℕ)) (front : List ScriptLine)
+    (rest piece behind : List ℕ) (line : Option ScriptLine) (whole : Read)
+    → with_front front (lines_at mode at names (pieces rest)) ≡ whole → pieces rest ≡ piece ∷ pieces behind
+    → line_at mode at names piece ≡ Ok (after, line)
     → with_front (front ++ option_to_list line) (lines_at mode (at + 1) after (pieces behind)) ≡ whole
 unfolding lines_at
 with_front-read mode at names after front rest piece behind line whole so_far cut read =
-    let one : with_front front (lines_at mode at names (pieces rest)) ≡ with_front front (lines_at mode (at + 1) after (pieces behind) >>= λ y. Ok (y.0, option_to_list line ++ y.1)) = rw (cut, read) refl in
-    sym (with_front-append front (option_to_list line) (lines_at mode (at + 1) after (pieces behind))) ∙ sym one ∙ so_far
+    let one : with_front front (lines_at mode at names (pieces rest))
+    ≡ with_front front
+    (lines_at mode (at + 1) after (pieces behind) >>= λ y. Ok (y.0, option_to_list line ++ y.1)) =
+    rw (cut, read) refl in
+    sym (with_front-append front (option_to_list line) (lines_at mode (at + 1) after (pieces behind)))
+    ∙ sym one ∙ so_far
 
 -- a piece is refused
-pub fails_at_piece : (mode : ScriptMode) (at : ℕ) (names : List (List ℕ)) (front : List ScriptLine) (bytes rest piece behind : List ℕ) (fault : ScriptFault)
-    → with_front front (lines_at mode at names (pieces rest)) ≡ lines_at mode 1 [] (pieces bytes) → pieces rest ≡ piece ∷ pieces behind → Fails fault (line_at mode at names piece)
+pub fails_at_piece : (mode : ScriptMode) (at : ℕ) (names : List (List ℕ)) (front : List ScriptLine)
+    (bytes rest piece behind : List ℕ) (fault : ScriptFault)
+    → with_front front (lines_at mode at names (pieces rest)) ≡ lines_at mode 1 [] (pieces bytes)
+    → pieces rest ≡ piece ∷ pieces behind → Fails fault (line_at mode at names piece)
     → Fails fault (script_of mode bytes)
 unfolding lines_at script_of
 fails_at_piece mode at names front bytes rest piece behind (faults.BadLine n) so_far cut refused =
@@ -44,9 +55,15 @@ fails_at_piece mode at names front bytes rest piece behind (faults.BadLine n) so
 fails_at_piece mode at names front bytes rest piece behind faults.NoMemory so_far cut refused = tt
 
 -- no piece is left
-pub reads_all : (mode : ScriptMode) (at : ℕ) (names : List (List ℕ)) (front : List ScriptLine) (bytes rest : List ℕ)
-    → with_front front (lines_at mode at names (pieces rest)) ≡ lines_at mode 1 [] (pieces bytes) → rest ≡ [] → script_of mode bytes ≡ Ok (record { names = names; lines = front })
+pub reads_all : (mode : ScriptMode) (at : ℕ) (names : List (List ℕ)) (front : List ScriptLine)
+    (bytes rest : List ℕ)
+    → with_front front (lines_at mode at names (pieces rest)) ≡ lines_at mode 1 [] (pieces bytes) → rest ≡ []
+    → script_of mode bytes ≡ Ok (record {
+      names = names;
+      lines = front;
+    })
 unfolding lines_at script_of
 reads_all mode at names front bytes rest so_far none =
-    let one : lines_at mode 1 [] (pieces bytes) ≡ Ok (names, front) = sym so_far ∙ rw none (ap (λ (ls : List ScriptLine). Ok (names, ls)) (append-nil front)) in
+    let one : lines_at mode 1 [] (pieces bytes) ≡ Ok (names, front) =
+    sym so_far ∙ rw none (ap (λ (ls : List ScriptLine). Ok (names, ls)) (append-nil front)) in
     rw one refl

@@ -1,5 +1,6 @@
 -- The first piece is what stands before the first line feed.
-use Rattle.std.proofs.Common.{◌≡◌, ℕ, suc, ◌+◌, ◌-◌, ◌<◌, Bool, true, false, not, List, [], ◌∷◌, ◌==◌, length, take, drop, refl, sym, ap, ◌∙◌, arith}
+use Rattle.std.proofs.Common.{◌≡◌, ℕ, suc, ◌+◌, ◌-◌, ◌<◌, Bool, true, false, not, List, []}
+use Rattle.std.proofs.Common.{◌∷◌, ◌==◌, length, take, drop, refl, sym, ap, ◌∙◌, arith}
 use Rattle.std.specs.List.{prefix_len}
 use Rattle.std.proofs.lemmas.List.{nil_from_length, take_rest}
 use Rattle.pj_parse.specs.Lines.{pieces, onto_first}
@@ -13,9 +14,12 @@ abbrev pub IsCut : List ℕ → Type 0
 IsCut bytes = pieces bytes ≡ take (piece_len bytes) bytes ∷ pieces (drop 1 (drop (piece_len bytes) bytes))
 
 -- a byte goes onto the first piece, or is the line feed behind an empty one
-pieces-cons : (b : ℕ) (bs : List ℕ) (feed : Bool) → (b == 10) ≡ feed → onto_first b (pieces bs) ≡ (b ∷ take (piece_len bs) bs) ∷ pieces (drop 1 (drop (piece_len bs) bs)) → IsCut (b ∷ bs)
+pieces-cons : (b : ℕ) (bs : List ℕ) (feed : Bool) → (b == 10) ≡ feed
+    → onto_first b (pieces bs) ≡ (b ∷ take (piece_len bs) bs) ∷ pieces (drop 1 (drop (piece_len bs) bs))
+    → IsCut (b ∷ bs)
 pieces-cons b bs true e more = rw e refl
-pieces-cons b bs false e more = let one : 1 + piece_len bs ≡ suc (piece_len bs) = omega arith in rw (e, one) more
+pieces-cons b bs false e more =
+    let one : 1 + piece_len bs ≡ suc (piece_len bs) = omega arith in rw (e, one) more
 
 pub pieces-cut : (b : ℕ) (bs : List ℕ) → IsCut (b ∷ bs)
 pieces-cut b [] = pieces-cons b [] (b == 10) refl refl
@@ -26,7 +30,8 @@ pieces-cut_some [] some = absurd (omega arith)
 pieces-cut_some (b ∷ bs) some = pieces-cut b bs
 
 -- the last piece ends where the bytes end
-pub pieces-last : (bytes : List ℕ) (len : ℕ) (front behind : List ℕ) → 0 < length bytes → len ≡ piece_len bytes → front ≡ take len bytes → behind ≡ drop len bytes → length behind < 1
+pub pieces-last : (bytes : List ℕ) (len : ℕ) (front behind : List ℕ) → 0 < length bytes
+    → len ≡ piece_len bytes → front ≡ take len bytes → behind ≡ drop len bytes → length behind < 1
     → pieces bytes ≡ front ∷ pieces behind
 pieces-last bytes len front behind some len-is front-is behind-is none =
     let nil : behind ≡ [] = nil_from_length behind (omega arith) in
@@ -34,7 +39,8 @@ pieces-last bytes len front behind some len-is front-is behind-is none =
     rw (front-is, nil) (pieces-cut_some bytes some ∙ rw (← len-is, rest) refl)
 
 -- another piece ends at a line feed
-pub pieces-next : (bytes : List ℕ) (len : ℕ) (front behind : List ℕ) → 0 < length bytes → len ≡ piece_len bytes → front ≡ take len bytes → behind ≡ drop len bytes
+pub pieces-next : (bytes : List ℕ) (len : ℕ) (front behind : List ℕ) → 0 < length bytes
+    → len ≡ piece_len bytes → front ≡ take len bytes → behind ≡ drop len bytes
     → pieces bytes ≡ front ∷ pieces (take (length behind - 1) (drop 1 behind))
 pieces-next bytes len front behind some len-is front-is behind-is =
     rw (take_rest behind 1, front-is, behind-is) (pieces-cut_some bytes some ∙ rw (← len-is) refl)

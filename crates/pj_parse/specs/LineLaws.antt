@@ -8,22 +8,29 @@ use Rattle.pj_parse.specs.Lines.{names_limit, IsScript, IsBadLine}
 
 -- bytes spell one script at most
 abbrev pub OneReading : Type 0
-OneReading = (mode : ScriptMode) (bytes : List ℕ) (a b : Script) → IsScript mode bytes a → IsScript mode bytes b → a ≡ b
+OneReading =
+    (mode : ScriptMode) (bytes : List ℕ) (a b : Script) → IsScript mode bytes a → IsScript mode bytes b
+    → a ≡ b
 
 -- bytes with a bad line spell no script
 abbrev pub NoScriptWithABadLine : Type 0
-NoScriptWithABadLine = (mode : ScriptMode) (bytes : List ℕ) (script : Script) (number : ℕ) → IsScript mode bytes script → IsBadLine mode bytes number → ⊥
+NoScriptWithABadLine =
+    (mode : ScriptMode) (bytes : List ℕ) (script : Script) (number : ℕ) → IsScript mode bytes script
+    → IsBadLine mode bytes number → ⊥
 
 -- bytes have one first bad line at most
 abbrev pub OneBadLine : Type 0
-OneBadLine = (mode : ScriptMode) (bytes : List ℕ) (m n : ℕ) → IsBadLine mode bytes m → IsBadLine mode bytes n → m ≡ n
+OneBadLine =
+    (mode : ScriptMode) (bytes : List ℕ) (m n : ℕ) → IsBadLine mode bytes m → IsBadLine mode bytes n → m ≡ n
 
 -- the numbers of the lines rise, and all are above this one
 abbrev pub RisesFrom : ℕ → List ScriptLine → Type 0
 RisesFrom low [] = Unit {0}
 RisesFrom low (line ∷ lines) = (low < line.line) × RisesFrom line.line lines
 
--- the lines of a script rise, each has a name of the script, and the names are no more than the mode lets it have
+-- the lines of a script rise, each has a name of the script, and the names are no more than the mode lets it
+-- have
 abbrev pub LinesRise : Type 0
 LinesRise = (mode : ScriptMode) (bytes : List ℕ) (script : Script) → IsScript mode bytes script
-    → RisesFrom 0 script.lines × AllByRecursion (λ line. line.name < length script.names) script.lines × (length script.names ≤ names_limit mode)
+    → RisesFrom 0 script.lines × AllByRecursion (λ line. line.name < length script.names) script.lines
+    × (length script.names ≤ names_limit mode)

@@ -1,5 +1,6 @@
 -- Script lines (docs/GRAMMAR.md, "Script lines").
-use Rattle.std.specs.Prelude.{◌≡◌, ◌≢◌, ℕ, ◌+◌, ◌<◌, ◌≤◌, ◌⊎◌, Bool, true, false, ◌||◌, List, [], ◌∷◌, ◌++◌, length, ◌==◌, if◌then◌else◌, Some, slice_get, Contains, codes}
+use Rattle.std.specs.Prelude.{◌≡◌, ◌≢◌, ℕ, ◌+◌, ◌<◌, ◌≤◌, ◌⊎◌, Bool, true, false, ◌||◌, List, [], ◌∷◌}
+use Rattle.std.specs.Prelude.{◌++◌, length, ◌==◌, if◌then◌else◌, Some, slice_get, Contains, codes}
 use Rattle.pj_parse.specs.declared.types.ScriptMode.{ScriptMode}
 use Rattle.pj_parse.specs.declared.types.ScriptMode.TheVariants.{Play}
 use Rattle.pj_parse.specs.declared.types.Act.{Act}
@@ -8,7 +9,7 @@ use Rattle.pj_parse.specs.declared.types.ScriptLine.{ScriptLine}
 use Rattle.pj_parse.specs.declared.types.Script.{Script}
 use Rattle.pj_parse.specs.declared.lines.ScriptFault.{ScriptFault}
 use Rattle.pj_parse.specs.declared.lines.ScriptFault.TheVariants.{BadLine, NoMemory}
-use Rattle.pj_parse.specs.Bytes.{is_blank, is_small, is_digit, AllAre, IsBlank}
+use Rattle.pj_lex.specs.Bytes.{is_blank, is_small, is_digit, AllAre, IsBlank}
 
 -- the byte in front of the first piece
 abbrev pub onto_first : ℕ → List (List ℕ) → List (List ℕ)
@@ -22,7 +23,8 @@ pieces (b ∷ bs) = if b == 10 then [] ∷ pieces bs else onto_first b (pieces b
 
 -- blanks alone, or a comment: a `#` behind blanks
 abbrev pub IsSkipped : List ℕ → Type 0
-IsSkipped piece = IsBlank piece ⊎ ((blanks : List ℕ) × (more : List ℕ) × IsBlank blanks × (piece ≡ blanks ++ 35 ∷ more))
+IsSkipped piece =
+    IsBlank piece ⊎ ((blanks : List ℕ) × (more : List ℕ) × IsBlank blanks × (piece ≡ blanks ++ 35 ∷ more))
 
 -- a small letter, a digit or `_`
 abbrev pub is_name_byte : ℕ → Bool
@@ -41,7 +43,9 @@ IsTrimmed rest =
 
 -- `start` alone, or with a blank behind it
 abbrev pub BeginsStart : List ℕ → Type 0
-BeginsStart rest = (rest ≡ codes "start") ⊎ ((b : ℕ) × (more : List ℕ) × (is_blank b ≡ true) × (rest ≡ codes "start" ++ b ∷ more))
+BeginsStart rest =
+    (rest ≡ codes "start")
+    ⊎ ((b : ℕ) × (more : List ℕ) × (is_blank b ≡ true) × (rest ≡ codes "start" ++ b ∷ more))
 
 -- what a line's rest asks for
 abbrev pub IsAct : List ℕ → Act → Type 0
@@ -70,7 +74,8 @@ abbrev pub names_limit : ScriptMode → ℕ
 names_limit Play = 1
 
 -- the piece of this number spells the line, which leads from the names before it to those after it
-pub record SpellsLine (mode : ScriptMode) (at : ℕ) (before after : List (List ℕ)) (piece : List ℕ) (line : ScriptLine) : Type 0 where
+pub record SpellsLine (mode : ScriptMode) (at : ℕ) (before after : List (List ℕ)) (piece : List ℕ)
+    (line : ScriptLine) : Type 0 where
   pub name : List ℕ
   pub spelled : SpellsAct piece name line.act
   pub numbered : Numbers before after name line.name
@@ -78,11 +83,13 @@ pub record SpellsLine (mode : ScriptMode) (at : ℕ) (before after : List (List 
   pub counted : line.line ≡ at
 
 -- the pieces, the first of this number, spell the lines in order, skipped ones aside
-abbrev pub AreLines : ScriptMode → ℕ → List (List ℕ) → List (List ℕ) → List ScriptLine → List (List ℕ) → Type 0
+abbrev pub AreLines : ScriptMode → ℕ → List (List ℕ) → List (List ℕ) → List ScriptLine → List (List ℕ)
+    → Type 0
 AreLines mode at before [] lines after = (lines ≡ []) × (after ≡ before)
 AreLines mode at before (piece ∷ more) lines after =
     (IsSkipped piece × AreLines mode (at + 1) before more lines after)
-    ⊎ ((line : ScriptLine) × (others : List ScriptLine) × (now : List (List ℕ)) × SpellsLine mode at before now piece line
+    ⊎ ((line : ScriptLine) × (others : List ScriptLine) × (now : List (List ℕ))
+    × SpellsLine mode at before now piece line
     × (lines ≡ line ∷ others) × AreLines mode (at + 1) now more others after)
 
 -- the bytes spell the script

@@ -1,5 +1,7 @@
 -- How script lines are read. No public contract cites this file.
-use Rattle.std.specs.Prelude.{◌≡◌, ℕ, ◌+◌, ◌-◌, Bool, true, false, ◌||◌, ◌&&◌, not, List, [], ◌∷◌, ◌++◌, length, take, drop, Option, Some, None, Result, Ok, Err, nat_lt, ◌==◌, if◌then◌else◌, codes, position, option_to_list, bytes_eq}
+use Rattle.std.specs.Prelude.{◌≡◌, ℕ, ◌+◌, ◌-◌, Bool, true, false, ◌||◌, ◌&&◌, not, List, [], ◌∷◌}
+use Rattle.std.specs.Prelude.{◌++◌, length, take, drop, Option, Some, None, Result, Ok, Err, nat_lt}
+use Rattle.std.specs.Prelude.{◌==◌, if◌then◌else◌, codes, position, option_to_list, bytes_eq}
 use Rattle.std.specs.List.{prefix_len, suffix_len}
 use Rattle.pj_parse.specs.declared.types.ScriptMode.{ScriptMode}
 use Rattle.pj_parse.specs.declared.types.Act.TheVariants.{Whole}
@@ -7,7 +9,7 @@ use Rattle.pj_parse.specs.declared.types.ScriptLine.{ScriptLine}
 use Rattle.pj_parse.specs.declared.types.Script.{Script}
 use Rattle.pj_parse.specs.declared.lines.ScriptFault.{ScriptFault}
 use Rattle.pj_parse.specs.declared.lines.ScriptFault.TheVariants.{BadLine, NoMemory}
-use Rattle.pj_parse.specs.Bytes.{is_blank, is_small}
+use Rattle.pj_lex.specs.Bytes.{is_blank, is_small}
 use Rattle.pj_parse.specs.Lines.{pieces, is_name_byte, names_limit}
 
 infixl 10 ◌>>=◌
@@ -87,14 +89,16 @@ body_of rest =
 -- the names with this one, and its number, by the place where it stands
 abbrev pub number_by : ScriptMode → ℕ → List (List ℕ) → List ℕ → Option ℕ → Result (List (List ℕ) × ℕ) ℕ
 number_by mode at names name (Some place) = Ok (names, place)
-number_by mode at names name None = if nat_lt (length names) (names_limit mode) then Ok (names ++ name ∷ [], length names) else Err at
+number_by mode at names name None =
+    if nat_lt (length names) (names_limit mode) then Ok (names ++ name ∷ [], length names) else Err at
 
 -- the names with this one, and its number
 unfoldable pub numbered : ScriptMode → ℕ → List (List ℕ) → List ℕ → Result (List (List ℕ) × ℕ) ℕ
 numbered mode at names name = number_by mode at names name (position (λ known. bytes_eq known name) names)
 
 -- the names behind a piece, and its line, if it isn't skipped
-unfoldable pub line_at : ScriptMode → ℕ → List (List ℕ) → List ℕ → Result (List (List ℕ) × Option ScriptLine) ℕ
+unfoldable pub line_at : ScriptMode → ℕ → List (List ℕ) → List ℕ
+    → Result (List (List ℕ) × Option ScriptLine) ℕ
 line_at mode at names piece = if is_skipped piece then Ok (names, None) else (do
   x ← or_bad at (name_and_rest (behind_blanks piece))
   body ← or_bad at (body_of x.1)
@@ -102,7 +106,8 @@ line_at mode at names piece = if is_skipped piece then Ok (names, None) else (do
   Ok (n.0, Some (record { line = at; name = n.1; act = Whole body })))
 
 -- the names behind pieces, and their lines
-unfoldable pub lines_at : ScriptMode → ℕ → List (List ℕ) → List (List ℕ) → Result (List (List ℕ) × List ScriptLine) ℕ
+unfoldable pub lines_at : ScriptMode → ℕ → List (List ℕ) → List (List ℕ)
+    → Result (List (List ℕ) × List ScriptLine) ℕ
 lines_at mode at names [] = Ok (names, [])
 lines_at mode at names (piece ∷ more) = do
   x ← line_at mode at names piece

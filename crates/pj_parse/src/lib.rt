@@ -1,18 +1,32 @@
-//! Reads script lines and the thin statements of their bodies, exactly as docs/GRAMMAR.md has them.
+//! Reads script lines and the statements of their bodies, exactly as docs/GRAMMAR.md has them.
 #![tactic(auto)]
 
+mod actions;
+mod calls;
+mod laws;
 mod lines;
-mod places;
-mod thin_statement;
-mod tokens;
+mod names;
+mod nots;
+mod parsing;
+mod projections;
+mod reading;
+mod rest;
+mod rows;
+mod selects;
+mod settings;
+mod statements;
+mod tables;
 pub mod types;
+mod values;
+mod words;
 
+pub use laws::{one_place, one_statement};
 pub use lines::{
     ScriptFault, lines_rise, no_script_with_a_bad_line, one_bad_line, one_reading, script,
 };
-pub use thin_statement::{ThinFault, one_thin_reading, thin};
+pub use parsing::{ParseFault, statement};
 
 #[cfg(test)]
 mod line_tests;
 #[cfg(test)]
-mod thin_tests;
+mod statement_tests;

@@ -1,13 +1,17 @@
 //! Reads the lines of a script, from the front, each line once.
-ghost use Rattle.std.specs.Prelude.{◌≡◌, ◌+◌, ◌<◌, ◌==◌, not, ◌≤◌, ◌∷◌, length, position, bytes_eq, option_map, IfOk, IfErr, OnOk, vec_len};
+ghost use Rattle.std.specs.Prelude.{◌≡◌, ◌+◌, ◌<◌, ◌==◌, not, ◌≤◌, ◌∷◌, length, position};
+ghost use Rattle.std.specs.Prelude.{bytes_eq, option_map, IfOk, IfErr, OnOk, vec_len};
 ghost use Rattle.std.specs.List.{prefix_len, suffix_len};
 ghost use Rattle.pj_parse.specs.declared.lines.ScriptFault.TheVariants as faults;
-ghost use Rattle.pj_parse.specs.Bytes.{is_blank, is_small};
+ghost use Rattle.pj_lex.specs.Bytes.{is_blank, is_small};
 ghost use Rattle.pj_parse.specs.Lines.{pieces, is_name_byte, names_limit, IsScript, HasLineCause};
 ghost use Rattle.pj_parse.specs.LineLaws.{OneReading, NoScriptWithABadLine, OneBadLine, LinesRise};
-ghost use Rattle.pj_parse.specs.ReadingLines.{Gives, behind_blanks, before_blanks, is_skipped, is_name, name_and_rest, begins_start, is_body, body_of, numbered, line_at, script_of};
+ghost use Rattle.pj_parse.specs.ReadingLines.{Gives, behind_blanks, before_blanks, is_skipped};
+ghost use Rattle.pj_parse.specs.ReadingLines.{is_name, name_and_rest, begins_start, is_body};
+ghost use Rattle.pj_parse.specs.ReadingLines.{body_of, numbered, line_at, script_of};
 
 use crate::types::{Act, Script, ScriptLine, ScriptMode};
+use pj_lex::bytes::{blanks_in_front, is_blank};
 use pj_value::{List, NoMemory, Text};
 use std::alloc::{AllocError, AllocFailed, Global};
 use thiserror::Error;
@@ -18,6 +22,7 @@ pub enum ScriptFault {
     /// The first line that is neither skipped nor a line of the mode. Lines count from 1, skipped ones too.
     #[error("bad script line {line}")]
     BadLine { line: u32 },
+    /// There was no memory for the script.
     #[error("no memory")]
     NoMemory,
 }
@@ -46,24 +51,10 @@ impl<T: Drop> From<AllocFailed<T>> for ScriptFault {
     }
 }
 
-fn is_blank(b: u8) -> bool
-    ensures { result ≡ is_blank b }
-{
-    b == b' ' || b == b'\t' || b == b'\r'
-}
-
 fn is_name_byte(b: u8) -> bool
     ensures { result ≡ is_name_byte b }
 {
     b.is_ascii_lowercase() || b.is_ascii_digit() || b == b'_'
-}
-
-/// How many blanks the bytes begin with.
-fn blanks_at_front(bytes: &[u8]) -> usize
-    ensures count { result ≡ prefix_len is_blank bytes.now }
-    ensures bound { result ≤ length bytes.now }
-{
-    bytes.iter().take_while(|b| is_blank(**b)).count()
 }
 
 /// How many blanks the bytes end with.
@@ -94,7 +85,7 @@ fn piece_len(bytes: &[u8]) -> usize
 fn behind_blanks(bytes: &[u8]) -> &[u8]
     ensures { result.now ≡ behind_blanks bytes.now }
 {
-    bytes.split_at(blanks_at_front(bytes)).1
+    bytes.split_at(blanks_in_front(bytes)).1
 }
 
 /// The bytes before the blanks at the end.
@@ -229,7 +220,8 @@ fn read_line(
     piece: &[u8],
 ) -> Result<Option<ScriptLine>, ScriptFault>
     requires few { vec_len names.old ≤ names_limit mode }
-    ensures line { Gives (λ line. (names.new.items, line)) result (line_at mode number names.old.items piece.now) }
+    ensures line { Gives (λ line. (names.new.items, line)) result
+        (line_at mode number names.old.items piece.now) }
     ensures few { OnOk result (vec_len names.new ≤ names_limit mode) }
 {
     if is_skipped(piece) {
@@ -276,7 +268,8 @@ pub fn script(alloc: Global, bytes: &[u8], mode: ScriptMode) -> Result<Script, S
     requires { length bytes.now ≤ 4294967295 }
     ensures found { IfOk result (λ script. IsScript mode bytes.now script) }
 
-    // No bytes both spell a script and have a bad line (`no_script_with_a_bad_line`), and none have two first bad lines
+    // No bytes both spell a script and have a bad line (`no_script_with_a_bad_line`), and none have two first
+    // bad lines
     // (`one_bad_line`), so these leave one answer beside want of memory.
     ensures bad { IfErr result (λ fault. HasLineCause mode bytes.now fault) }
 {
@@ -298,7 +291,8 @@ pub fn no_script_with_a_bad_line()
     ensures { NoScriptWithABadLine }
 {}
 
-/// The numbers of a script's lines rise from 1, each line has a name of the script, and its mode lets it have so many names.
+/// The numbers of a script's lines rise from 1, each line has a name of the script, and its mode lets it have
+/// so many names.
 pub fn lines_rise()
     ensures { LinesRise }
 {}

@@ -1,5 +1,6 @@
 //! What is read: a script of lines, and the statement of a body. Lists stand in the order of the text.
 use pj_value::{AggKind, Kind, List, Text, Value};
+use sqlite_items::Boxed;
 
 /// The program that a script is for, which decides what its lines may be.
 #[derive(Clone, Copy, Debug, PartialEq, Eq)]
@@ -32,19 +33,55 @@ pub enum Act {
     Whole(Text),
 }
 
-/// A statement as it is written, with names in the place of numbers.
+/// An operator between two operands.
+#[derive(Clone, Copy, Debug, PartialEq, Eq)]
+pub enum TreeOp {
+    Add,
+    Mul,
+    Eq,
+    Ne,
+    Lt,
+    Le,
+    Gt,
+    Ge,
+    And,
+    Or,
+}
+
+/// A value or a condition, with names. Parentheses leave nothing behind but the shape.
 #[derive(Debug, Drop)]
-pub enum Statement {
-    Create {
-        name: Text,
-        columns: List<TreeColumn>,
-        key: List<Text>,
-    },
-    Insert {
-        table: Text,
-        rows: List<List<Value>>,
-    },
-    Select(TreeSelect),
+pub enum Tree {
+    Num(u64),
+    Text(Text),
+    Name(Text),
+    /// The quotient, rounded down. The divisor is at least 1.
+    IntDiv(Boxed<Tree>, u64),
+    /// The remainder. The divisor is at least 1.
+    Mod(Boxed<Tree>, u64),
+    Pair(TreeOp, Boxed<Tree>, Boxed<Tree>),
+    Not(Boxed<Tree>),
+}
+
+/// What an item or an order key computes.
+#[derive(Debug, Drop)]
+pub enum TreeItem {
+    Value(Tree),
+    /// A call of an aggregate function. `count` alone has no argument.
+    Call(AggKind, Option<Tree>),
+}
+
+/// An item, and its name after AS.
+#[derive(Debug, Drop)]
+pub struct Listed {
+    pub item: TreeItem,
+    pub alias: Option<Text>,
+}
+
+/// A key of ORDER BY.
+#[derive(Debug, Drop)]
+pub struct TreeOrder {
+    pub item: TreeItem,
+    pub descending: bool,
 }
 
 /// A column of CREATE TABLE.
@@ -54,22 +91,120 @@ pub struct TreeColumn {
     pub kind: Kind,
 }
 
-/// A SELECT.
+/// An assignment of UPDATE.
+#[derive(Debug, Drop)]
+pub struct TreeAssign {
+    pub column: Text,
+    pub value: Tree,
+}
+
+/// A definition of a projection. No items stand for `*`.
+#[derive(Debug, Drop)]
+pub struct TreeProj {
+    pub name: Text,
+    pub items: Option<List<Listed>>,
+    pub groups: Option<List<Tree>>,
+    pub order: Option<List<Text>>,
+}
+
+/// A SELECT. No items stand for `*`; no GROUP BY and no ORDER BY for empty lists.
 #[derive(Debug, Drop)]
 pub struct TreeSelect {
-    pub items: List<Listed>,
+    pub items: Option<List<Listed>>,
     pub table: Text,
+    pub filter: Option<Tree>,
+    pub groups: List<Tree>,
+    pub order: List<TreeOrder>,
+    pub limit: Option<u64>,
+    pub sets: List<SetWord>,
 }
 
-/// An item of a SELECT.
-#[derive(Debug, Drop)]
-pub struct Listed {
-    pub item: TreeItem,
-}
-
-/// What an item computes.
+/// A setting of a statement or a session, with its value.
 #[derive(Clone, Copy, Debug, PartialEq, Eq)]
-pub enum TreeItem {
-    /// A call of an aggregate function without an argument.
-    Call(AggKind),
+pub enum SetWord {
+    /// `optimize_use_projections`.
+    UseProjections(bool),
+    /// `force_optimize_projection`.
+    Force(bool),
+    /// `mutations_sync`.
+    Sync(bool),
+}
+
+/// A value of `lightweight_mutation_projection_mode`.
+#[derive(Clone, Copy, Debug, PartialEq, Eq)]
+pub enum ModeWord {
+    Throw,
+    Drop,
+    Rebuild,
+}
+
+/// A setting of a table, with its value.
+#[derive(Clone, Copy, Debug, PartialEq, Eq)]
+pub enum TableWord {
+    /// `index_granularity`, in rows, from 1 to 65,536.
+    Granularity(u32),
+    Mode(ModeWord),
+}
+
+/// What ALTER TABLE does.
+#[derive(Debug, Drop)]
+pub enum TreeAction {
+    Add {
+        if_not_there: bool,
+        projection: TreeProj,
+    },
+    Drop {
+        if_there: bool,
+        name: Text,
+    },
+    Materialize {
+        if_there: bool,
+        name: Text,
+    },
+    Clear {
+        if_there: bool,
+        name: Text,
+    },
+    Delete {
+        filter: Tree,
+    },
+    Update {
+        assigns: List<TreeAssign>,
+        filter: Tree,
+    },
+    Mode(ModeWord),
+}
+
+/// A statement as it is written, with names in the place of numbers.
+#[derive(Debug, Drop)]
+pub enum Statement {
+    Create {
+        name: Text,
+        columns: List<TreeColumn>,
+        projections: List<TreeProj>,
+        key: List<Text>,
+        settings: List<TableWord>,
+    },
+    Insert {
+        table: Text,
+        /// The columns that the rows fill, where they are named.
+        columns: Option<List<Text>>,
+        rows: List<List<Value>>,
+    },
+    Select(TreeSelect),
+    Explain(TreeSelect),
+    Delete {
+        table: Text,
+        filter: Tree,
+        sets: List<SetWord>,
+    },
+    Alter {
+        table: Text,
+        action: TreeAction,
+        sets: List<SetWord>,
+    },
+    Optimize(Text),
+    Set(List<SetWord>),
+    Merge(Text),
+    Mutate(Text),
 }

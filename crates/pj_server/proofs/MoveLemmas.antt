@@ -1,13 +1,13 @@
 -- From what a body means to what its moves are.
-use Rattle.std.proofs.Common.{◌≡◌, ℕ, ◌+◌, List, [], ◌∷◌, ◌++◌, length, Result, Ok, Err, refl, sym, ap, subst, ◌∙◌, inl, inr, append_assoc, append-nil, arith}
-use Rattle.std.specs.Prelude.{IfOk, IfErr}
+use Rattle.std.proofs.Common.{◌≡◌, ℕ, ◌+◌, List, [], ◌∷◌, ◌++◌, length, Result, Ok, Err, refl}
+use Rattle.std.proofs.Common.{sym, ap, subst, ◌∙◌, inl, inr, append_assoc, append-nil, arith}
+use Rattle.std.specs.Prelude.{IfOk, IfErr, OnOk}
 use Rattle.std.proofs.lemmas.Option.{slice_get_within}
 use Rattle.std.proofs.lemmas.List.{length_push}
 use Rattle.pj_value.specs.declared.value.Value.{Value}
 use Rattle.pj_value.specs.Rows.{KindedRows}
 use Rattle.pj_parse.specs.declared.types.Statement.{Statement}
 use Rattle.pj_parse.specs.declared.types.Statement.TheVariants as statements
-use Rattle.pj_parse.specs.Thin.{IsThin}
 use Rattle.pj_journal.specs.declared.table.Table.{Table}
 use Rattle.pj_journal.specs.declared.entry.What.{What}
 use Rattle.pj_journal.specs.declared.entry.What.TheVariants as whats
@@ -25,36 +25,49 @@ use Rattle.pj_legal.specs.declared.binding.BindFault.TheVariants as faults
 use Rattle.pj_legal.specs.declared.reply.Reply.{Reply}
 use Rattle.pj_legal.specs.declared.reply.Reply.TheVariants as replies
 use Rattle.pj_legal.specs.Answers.{Answers}
-use Rattle.pj_legal.specs.Binding.{IsBound, IsRefusal, BodyBinds, BodyIsRefused}
+use Rattle.pj_legal.specs.Binding.{BodyReads, IsBuilt, IsBound, IsRefusal, BodyBinds, BodyIsRefused}
 use Rattle.pj_legal.specs.Faults.{IsBindFault}
 use Rattle.pj_legal.specs.Legal.{Said, entry_of, BoundForm, Form, StopsAfter, IsFirstMove, IsBegun}
 use Rattle.pj_server.specs.declared.server.By.{By}
-use Rattle.pj_server.specs.Moves.{said_by, Adds, BoundFits, BoundStops, BoundDone, Does, Serves, ChangesNothing, IsReadFault}
+use Rattle.pj_server.specs.Moves.{said_by, Adds, BoundFits, BoundStops, BoundDone}
+use Rattle.pj_server.specs.Moves.{Does, Serves, ChangesNothing, IsReadFault}
 use Rattle.pj_server.proofs.HistoryLemmas.{catalog-push, catalog_on-nothing}
 
-bound_fits : (tables : List Table) (statement : Statement) (bound : Bound) → IsBound tables statement bound → BoundFits tables bound
-bound_fits tables (statements.Create name columns key) (bounds.Create table) h = (rw h.2 h.0, h.1.room)
-bound_fits tables (statements.Create name columns key) (bounds.Insert place rs) h = absurd h
-bound_fits tables (statements.Create name columns key) (bounds.Select place query) h = absurd h
-bound_fits tables (statements.Insert name rows) (bounds.Create table) h = absurd h
-bound_fits tables (statements.Insert name rows) (bounds.Insert place rs) h = ((h.0, h.1.0, ap (λ r. r.kinds) h.3), rw h.3 h.2)
-bound_fits tables (statements.Insert name rows) (bounds.Select place query) h = absurd h
-bound_fits tables (statements.Select select) (bounds.Create table) h = absurd h
-bound_fits tables (statements.Select select) (bounds.Insert place rs) h = absurd h
-bound_fits tables (statements.Select select) (bounds.Select place query) h = slice_get_within tables place h.0 h.1.0
+bound_fits : (tables : List Table) (statement : Statement) (bound : Bound) → IsBound tables statement bound
+    → BoundFits tables bound
+bound_fits tables (statements.Create name columns projections key settings) bound (unknown, can, is) =
+    subst (BoundFits tables) (sym is) (unknown, can.room)
+bound_fits tables (statements.Insert name columns rows) bound (place, table, at, have, is) =
+    subst (BoundFits tables) (sym is) ((table, at.0, refl), have)
+bound_fits tables (statements.Select select) bound (place, table, at, is) =
+    subst (BoundFits tables) (sym is) (slice_get_within tables place table at.0)
+bound_fits tables (statements.Explain select) bound h = absurd h
+bound_fits tables (statements.Delete name filter sets) bound h = absurd h
+bound_fits tables (statements.Alter name action sets) bound h = absurd h
+bound_fits tables (statements.Optimize name) bound h = absurd h
+bound_fits tables (statements.Set sets) bound h = absurd h
+bound_fits tables (statements.Merge name) bound h = absurd h
+bound_fits tables (statements.Mutate name) bound h = absurd h
 
-pub body_fits : (tables : List Table) (body : List ℕ) (bound : Bound) → BodyBinds tables body bound → BoundFits tables bound
-body_fits tables body bound h = bound_fits tables h.0 bound h.2
+pub body_fits : (tables : List Table) (body : List ℕ) (bound : Bound) → BodyBinds tables body bound
+    → BoundFits tables bound
+body_fits tables body bound h = bound_fits tables h.0 bound h.3
 
 -- what was read is bound, or refused, for the tables that the history leaves
-pub read_binds : (held tables : List Table) (body : List ℕ) (statement : Statement) (r : Result Bound BindFault) → held ≡ tables → IsThin body statement → IfOk r (IsBound held statement) → IfOk r (BodyBinds tables body)
-read_binds held tables body statement (Ok bound) same thin h = (statement, thin, subst (λ ts. IsBound ts statement bound) same h)
-read_binds held tables body statement (Err fault) same thin h = tt
+pub read_binds : (held tables : List Table) (body : List ℕ) (statement : Statement)
+    (r : Result Bound BindFault) → held ≡ tables → BodyReads body statement
+    → OnOk r (IsBuilt statement) → IfOk r (IsBound held statement) → IfOk r (BodyBinds tables body)
+read_binds held tables body statement (Ok bound) same reads built h =
+    (statement, reads, built, subst (λ ts. IsBound ts statement bound) same h)
+read_binds held tables body statement (Err fault) same reads built h = tt
 
-pub read_refuses : (held tables : List Table) (body : List ℕ) (statement : Statement) (r : Result Bound BindFault) → held ≡ tables → IsThin body statement → IfErr r (IsBindFault held statement) → IfErr r (IsReadFault tables body)
-read_refuses held tables body statement (Ok bound) same thin h = tt
-read_refuses held tables body statement (Err (faults.Refused refusal)) same thin h = inr (statement, thin, subst (λ ts. IsRefusal ts statement refusal) same h)
-read_refuses held tables body statement (Err faults.NoMemory) same thin h = tt
+pub read_refuses : (held tables : List Table) (body : List ℕ) (statement : Statement)
+    (r : Result Bound BindFault) → held ≡ tables → BodyReads body statement
+    → IfErr r (IsBindFault held statement) → IfErr r (IsReadFault tables body)
+read_refuses held tables body statement (Ok bound) same reads h = tt
+read_refuses held tables body statement (Err (faults.Refused refusal)) same reads h =
+    inr (statement, reads, subst (λ ts. IsRefusal ts statement refusal) same h)
+read_refuses held tables body statement (Err faults.NoMemory) same reads h = tt
 
 -- ---- moves one after the other
 
@@ -62,78 +75,144 @@ pub Adds-nil : (log : Log) → Adds log log []
 Adds-nil log = record { grown = sym (append-nil log.entries); limit = refl }
 
 pub Adds-trans : (a b c : Log) (xs ys : List Entry) → Adds a b xs → Adds b c ys → Adds a c (xs ++ ys)
-Adds-trans a b c xs ys p q = record { grown = q.grown ∙ ap (λ es. es ++ ys) p.grown ∙ append_assoc a.entries xs ys; limit = q.limit ∙ p.limit }
+Adds-trans a b c xs ys p q =
+    record {
+      grown = q.grown ∙ ap (λ es. es ++ ys) p.grown ∙ append_assoc a.entries xs ys;
+      limit = q.limit ∙ p.limit;
+    }
 
 pub entries-nil : (a b : Log) → Adds a b [] → b.entries ≡ a.entries
 entries-nil a b p = p.grown ∙ append-nil a.entries
 
 -- a statement that begins when nothing was added yet
-pub Serves-after : (a b c : Log) (said : Said) (reply : Reply) → Adds a b [] → Serves b c said reply → Serves a c said reply
+pub Serves-after : (a b c : Log) (said : Said) (reply : Reply) → Adds a b [] → Serves b c said reply
+    → Serves a c said reply
 Serves-after a b c said reply none h =
-    let same = entries-nil a b none in
-    (h.0, Adds-trans a b c [] h.0 none h.1, subst (λ es. Form a.limit es said h.0 reply) same (subst (λ l. Form l b.entries said h.0 reply) none.limit h.2))
+    let same = entries-nil a b none in (
+      h.0,
+      Adds-trans a b c [] h.0 none h.1,
+      subst (λ es. Form a.limit es said h.0 reply) same
+          (subst (λ l. Form l b.entries said h.0 reply) none.limit h.2),
+    )
 
-pub serves_no_memory : (a b : Log) (said : Said) → Adds a b [] → Serves a b said (replies.Refused refusals.NoMemory)
+pub serves_no_memory : (a b : Log) (said : Said) → Adds a b []
+    → Serves a b said (replies.Refused refusals.NoMemory)
 serves_no_memory a b said none = ([], none, inr (inr (inl (refl, inl refl))))
 
-pub serves_full : (a b : Log) (said : Said) → Adds a b [] → IsFull a → Serves a b said (replies.Refused (refusals.Limit History))
+pub serves_full : (a b : Log) (said : Said) → Adds a b [] → IsFull a
+    → Serves a b said (replies.Refused (refusals.Limit History))
 serves_full a b said none full = ([], none, inr (inr (inr (refl, inl refl, omega arith))))
 
-pub serves_refusal : (a b : Log) (said : Said) (refusal : Refusal) → BodyIsRefused (catalog a.entries) said.body refusal → Adds a b (entry_of said whats.Refused ∷ []) → Serves a b said (replies.Refused refusal)
-serves_refusal a b said refusal refused adds = (entry_of said whats.Refused ∷ [], adds, inl (refusal, refused, refl, refl))
+pub serves_refusal : (a b : Log) (said : Said) (refusal : Refusal)
+    → BodyIsRefused (catalog a.entries) said.body refusal → Adds a b (entry_of said whats.Refused ∷ [])
+    → Serves a b said (replies.Refused refusal)
+serves_refusal a b said refusal refused adds =
+    (entry_of said whats.Refused ∷ [], adds, inl (refusal, refused, refl, refl))
 
 -- ---- bound statements
 
 -- the moves don't tell the body
-same_form : (place : List Entry) (line session : ℕ) (one other : List ℕ) (bound : Bound) (added : List Entry) (reply : Reply)
-    → BoundForm place (record { line = line; session = session; body = one }) bound added reply → BoundForm place (record { line = line; session = session; body = other }) bound added reply
+same_form : (place : List Entry) (line session : ℕ) (one other : List ℕ) (bound : Bound) (added : List Entry)
+    (reply : Reply)
+    → BoundForm place (record { line = line; session = session; body = one }) bound added reply
+    → BoundForm place (record { line = line; session = session; body = other }) bound added reply
 same_form place line session one other (bounds.Create table) added reply h = h
 same_form place line session one other (bounds.Insert table rs) added reply h = h
 same_form place line session one other (bounds.Select table query) added reply h = h
 
-stops_after : (may : Bound → What → Type 0) (place : List Entry) (said : Said) (bound : Bound) (added : List Entry) → BodyBinds (catalog place) said.body bound → BoundStops may said bound added → StopsAfter may place said added
+stops_after : (may : Bound → What → Type 0) (place : List Entry) (said : Said) (bound : Bound)
+    (added : List Entry)
+    → BodyBinds (catalog place) said.body bound → BoundStops may said bound added
+    → StopsAfter may place said added
 stops_after may place said bound added binds (inl none) = inl none
 stops_after may place said bound added binds (inr one) = inr (bound, one.0, binds, one.1, one.2)
 
 -- what a bound statement did is the form of its body
-form_of_bound : (old : Log) (by : By) (body : List ℕ) (bound : Bound) (added : List Entry) (reply : Reply) → BodyBinds (catalog old.entries) body bound → BoundDone old (said_by by) bound added reply
+form_of_bound : (old : Log) (by : By) (body : List ℕ) (bound : Bound) (added : List Entry) (reply : Reply)
+    → BodyBinds (catalog old.entries) body bound → BoundDone old (said_by by) bound added reply
     → Form old.limit old.entries (record { line = by.line; session = by.session; body = body }) added reply
-form_of_bound old by body bound added reply binds (inl done) = inr (inl (bound, binds, same_form old.entries by.line by.session [] body bound added reply done))
-form_of_bound old by body bound added reply binds (inr (inl early)) = inr (inr (inl (early.0, stops_after IsFirstMove old.entries (record { line = by.line; session = by.session; body = body }) bound added binds early.1)))
-form_of_bound old by body bound added reply binds (inr (inr early)) = inr (inr (inr (early.0, stops_after IsBegun old.entries (record { line = by.line; session = by.session; body = body }) bound added binds early.1, early.2)))
+form_of_bound old by body bound added reply binds (inl done) =
+    inr (inl (bound, binds, same_form old.entries by.line by.session [] body bound added reply done))
+form_of_bound old by body bound added reply binds (inr (inl early)) =
+    inr (inr (inl (
+      early.0,
+      stops_after IsFirstMove old.entries
+          (record { line = by.line; session = by.session; body = body }) bound added binds early.1,
+    )))
+form_of_bound old by body bound added reply binds (inr (inr early)) =
+    inr (inr (inr (
+      early.0,
+      stops_after IsBegun old.entries
+          (record { line = by.line; session = by.session; body = body }) bound added binds early.1,
+      early.2,
+    )))
 
-pub serves_bound : (old new : Log) (by : By) (body : List ℕ) (bound : Bound) (reply : Reply) → BodyBinds (catalog old.entries) body bound → Does old new (said_by by) bound reply
+pub serves_bound : (old new : Log) (by : By) (body : List ℕ) (bound : Bound) (reply : Reply)
+    → BodyBinds (catalog old.entries) body bound → Does old new (said_by by) bound reply
     → Serves old new (record { line = by.line; session = by.session; body = body }) reply
-serves_bound old new by body bound reply binds does = (does.0, does.1, form_of_bound old by body bound does.0 reply binds does.2)
+serves_bound old new by body bound reply binds does =
+    (does.0, does.1, form_of_bound old by body bound does.0 reply binds does.2)
 
-pub does_no_memory : (a b : Log) (said : Said) (bound : Bound) → Adds a b [] → Does a b said bound (replies.Refused refusals.NoMemory)
+pub does_no_memory : (a b : Log) (said : Said) (bound : Bound) → Adds a b []
+    → Does a b said bound (replies.Refused refusals.NoMemory)
 does_no_memory a b said bound none = ([], none, inr (inl (refl, inl refl)))
 
-pub does_create : (a b : Log) (said : Said) (table : Table) → Adds a b (entry_of said (whats.Created table) ∷ []) → Does a b said (bounds.Create table) replies.Done
+pub does_create : (a b : Log) (said : Said) (table : Table)
+    → Adds a b (entry_of said (whats.Created table) ∷ []) → Does a b said (bounds.Create table) replies.Done
 does_create a b said table adds = (entry_of said (whats.Created table) ∷ [], adds, inl (refl, refl))
 
 -- an INSERT began, and the journal was full, or there was no memory, or it committed
-module _ (a b c : Log) (said : Said) (table : ℕ) (rs : KindedRows) (begun : Adds a b (entry_of said (whats.Begun table) ∷ [])) (room : Adds b c []) where
+module _ (a b c : Log) (said : Said) (table : ℕ) (rs : KindedRows)
+    (begun : Adds a b (entry_of said (whats.Begun table) ∷ [])) (room : Adds b c []) where
   began : Adds a c (entry_of said (whats.Begun table) ∷ [])
   began = Adds-trans a b c (entry_of said (whats.Begun table) ∷ []) [] begun room
 
-  pub insert_full : IsFull b → Does a c said (bounds.Insert table rs) (replies.Refused (refusals.Limit History))
+  pub insert_full : IsFull b
+      → Does a c said (bounds.Insert table rs) (replies.Refused (refusals.Limit History))
   insert_full full =
-      let long : length a.entries + 1 ≡ a.limit = omega (arith, ap length begun.grown, length_push a.entries (entry_of said (whats.Begun table)), full, begun.limit) in
-      (entry_of said (whats.Begun table) ∷ [], began, inr (inr (refl, inr (whats.Begun table, refl, refl), long)))
+      let long : length a.entries + 1 ≡ a.limit =
+      omega (
+        arith,
+        ap length begun.grown,
+        length_push a.entries (entry_of said (whats.Begun table)),
+        full,
+        begun.limit,
+      ) in (
+        entry_of said (whats.Begun table) ∷ [],
+        began,
+        inr (inr (refl, inr (whats.Begun table, refl, refl), long)),
+      )
 
-  pub insert_stops : (d : Log) → Adds c d [] → Does a d said (bounds.Insert table rs) (replies.Refused refusals.NoMemory)
-  insert_stops d none = (entry_of said (whats.Begun table) ∷ [], Adds-trans a c d _ [] began none, inr (inl (refl, inr (whats.Begun table, refl, refl))))
+  pub insert_stops : (d : Log) → Adds c d []
+      → Does a d said (bounds.Insert table rs) (replies.Refused refusals.NoMemory)
+  insert_stops d none = (
+    entry_of said (whats.Begun table) ∷ [],
+    Adds-trans a c d _ [] began none,
+    inr (inl (refl, inr (whats.Begun table, refl, refl))),
+  )
 
-  pub insert_commits : (d : Log) (block : ℕ) → Adds c d (entry_of said (whats.Inserted table block rs) ∷ []) → Does a d said (bounds.Insert table rs) replies.Done
-  insert_commits d block adds =
-      (entry_of said (whats.Begun table) ∷ entry_of said (whats.Inserted table block rs) ∷ [], Adds-trans a c d _ _ began adds, inl (block, refl, refl))
+  pub insert_commits : (d : Log) (block : ℕ) → Adds c d (entry_of said (whats.Inserted table block rs) ∷ [])
+      → Does a d said (bounds.Insert table rs) replies.Done
+  insert_commits d block adds = (
+    entry_of said (whats.Begun table) ∷ entry_of said (whats.Inserted table block rs) ∷ [],
+    Adds-trans a c d _ _ began adds,
+    inl (block, refl, refl),
+  )
 
 -- the tables are as before once an INSERT began and room was made
-pub tables_stay : (a b c : Log) (e : Entry) → ChangesNothing e.what → Adds a b (e ∷ []) → Adds b c [] → catalog c.entries ≡ catalog a.entries
+pub tables_stay : (a b c : Log) (e : Entry) → ChangesNothing e.what → Adds a b (e ∷ []) → Adds b c []
+    → catalog c.entries ≡ catalog a.entries
 tables_stay a b c e nothing begun room =
-    ap catalog (entries-nil b c room ∙ begun.grown) ∙ catalog-push a.entries e ∙ catalog_on-nothing (catalog a.entries) e.what nothing
+    ap catalog (entries-nil b c room ∙ begun.grown) ∙ catalog-push a.entries e
+    ∙ catalog_on-nothing (catalog a.entries) e.what nothing
 
-pub does_select : (a b : Log) (said : Said) (table : ℕ) (query : Query) (held : List (List Value)) (out : KindedRows) → held ≡ rows a.entries table → Answers query held out
-    → Adds a b (entry_of said (whats.Looked table) ∷ []) → Does a b said (bounds.Select table query) (replies.Rows out)
-does_select a b said table query held out same right adds = (entry_of said (whats.Looked table) ∷ [], adds, inl (out, subst (λ xs. Answers query xs out) same right, refl, refl))
+pub does_select : (a b : Log) (said : Said) (table : ℕ) (query : Query) (held : List (List Value))
+    (out : KindedRows)
+    → held ≡ rows a.entries table → Answers query held out
+    → Adds a b (entry_of said (whats.Looked table) ∷ [])
+    → Does a b said (bounds.Select table query) (replies.Rows out)
+does_select a b said table query held out same right adds = (
+  entry_of said (whats.Looked table) ∷ [],
+  adds,
+  inl (out, subst (λ xs. Answers query xs out) same right, refl, refl),
+)

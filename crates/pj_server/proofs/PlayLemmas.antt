@@ -1,5 +1,7 @@
 -- What is written line by line, and what that makes of a whole run.
-use Rattle.std.proofs.Common.{◌≡◌, ℕ, ◌+◌, ◌<◌, ◌≤◌, suc, Bool, true, false, ◌&&◌, cond, nat_le, List, [], ◌∷◌, ◌++◌, length, get_or, take, map, min, Option, Some, refl, sym, ap, subst, ◌∙◌, inl, inr, arith}
+use Rattle.std.proofs.Common.{◌≡◌, ℕ, ◌+◌, ◌<◌, ◌≤◌, suc, Bool, true, false, ◌&&◌, cond, nat_le}
+use Rattle.std.proofs.Common.{List, [], ◌∷◌, ◌++◌, length, get_or, take, map, min}
+use Rattle.std.proofs.Common.{Option, Some, refl, sym, ap, subst, ◌∙◌, inl, inr, arith}
 use Rattle.std.specs.Io.KnownBytes.{Appends}
 use Rattle.std.proofs.KnownBytes.{Appends-nil, Appends-trans}
 use Rattle.std.proofs.lemmas.Bool.{le-leb}
@@ -19,7 +21,8 @@ use Rattle.pj_legal.specs.Run.{LinesRise, RunsAreLegal, cut}
 use Rattle.pj_legal.specs.Laws.{CutRunsAreLegal, RunGoesOn, RunIsAsLong, TextsGoOn}
 use Rattle.pj_legal.specs.Texts.{name_at, reply_text, texts_of, history_text}
 use Rattle.pj_server.specs.declared.end.End.{End}
-use Rattle.pj_server.specs.declared.end.End.TheVariants.{Usage, SourceFailed, TooLarge, BadLine, SinkFailed, NoMemory, Finished}
+use Rattle.pj_server.specs.declared.end.End.TheVariants.{Usage, SourceFailed, TooLarge, BadLine}
+use Rattle.pj_server.specs.declared.end.End.TheVariants.{SinkFailed, NoMemory, Finished}
 use Rattle.pj_server.specs.Moves.{Serves}
 use Rattle.pj_server.specs.RunLines.{Writes, RunsLine, RunsLines}
 use Rattle.pj_server.specs.Ends.{TellsLine, WholeScript, PartScript, ScriptEnds, FinishesSo}
@@ -40,18 +43,24 @@ take-past (x ∷ xs) ys n =
     let more : length (x ∷ xs) + n ≡ suc (length xs + n) = omega arith in
     rw more (ap (λ zs. x ∷ zs) (take-past xs ys n))
 
-pub AppendsPart-after : (a b c : Option (List ℕ)) (xs ys : List ℕ) → Appends a b xs → AppendsPart b c ys → AppendsPart a c (xs ++ ys)
-AppendsPart-after a b c xs ys p q = (length xs + q.0, subst (Appends a c) (sym (take-past xs ys q.0)) (Appends-trans a b c xs (take q.0 ys) p q.1))
+pub AppendsPart-after : (a b c : Option (List ℕ)) (xs ys : List ℕ) → Appends a b xs → AppendsPart b c ys
+    → AppendsPart a c (xs ++ ys)
+AppendsPart-after a b c xs ys p q = (
+  length xs + q.0,
+  subst (Appends a c) (sym (take-past xs ys q.0)) (Appends-trans a b c xs (take q.0 ys) p q.1),
+)
 
 -- a front of a text is a front of a longer one
-pub AppendsPart-longer : (a b : Option (List ℕ)) (xs ys : List ℕ) → AppendsPart a b xs → AppendsPart a b (xs ++ ys)
+pub AppendsPart-longer : (a b : Option (List ℕ)) (xs ys : List ℕ) → AppendsPart a b xs
+    → AppendsPart a b (xs ++ ys)
 AppendsPart-longer a b xs ys p =
     let n = min p.0 (length xs) in
     let le : n ≤ length xs = omega arith in
     let same : take n (xs ++ ys) ≡ take p.0 xs = take-append-le n xs ys le ∙ take_min p.0 xs in
     (n, subst (Appends a b) (sym same) p.1)
 
-Writes-after : (end : End) (a b c : Option (List ℕ)) (xs ys : List ℕ) → Appends a b xs → Writes end b c ys → Writes end a c (xs ++ ys)
+Writes-after : (end : End) (a b c : Option (List ℕ)) (xs ys : List ℕ) → Appends a b xs → Writes end b c ys
+    → Writes end a c (xs ++ ys)
 Writes-after Finished a b c xs ys p q = Appends-trans a b c xs ys p q
 Writes-after SinkFailed a b c xs ys p q = AppendsPart-after a b c xs ys p q
 Writes-after NoMemory a b c xs ys p q = AppendsPart-after a b c xs ys p q
@@ -62,21 +71,31 @@ Writes-after TooLarge a b c xs ys p q = absurd q
 
 -- ---- one line after the other
 
-pub RunsLines-none : (log : Log) (names : List (List ℕ)) (lines : List ScriptLine) (a : Option (List ℕ)) → RunsLines Finished 0 log log names lines a a
+pub RunsLines-none : (log : Log) (names : List (List ℕ)) (lines : List ScriptLine) (a : Option (List ℕ))
+    → RunsLines Finished 0 log log names lines a a
 RunsLines-none log names lines a = record { replies = []; run = refl; limit = refl; written = Appends-nil a }
 
-pub RunsLines-more : RunGoesOn → RunIsAsLong → TextsGoOn → (end : End) (i : ℕ) (old mid new : Log) (names : List (List ℕ)) (lines : List ScriptLine) (line : ScriptLine) (a b c : Option (List ℕ))
-    → i < length lines → line ≡ get_or lines i line → RunsLines Finished i old mid names lines a b → RunsLine end mid new names (statement_of line) b c → RunsLines end (i + 1) old new names lines a c
+pub RunsLines-more : RunGoesOn → RunIsAsLong → TextsGoOn
+    → (end : End) (i : ℕ) (old mid new : Log) (names : List (List ℕ)) (lines : List ScriptLine)
+    (line : ScriptLine) (a b c : Option (List ℕ))
+    → i < length lines → line ≡ get_or lines i line → RunsLines Finished i old mid names lines a b
+    → RunsLine end mid new names (statement_of line) b c → RunsLines end (i + 1) old new names lines a c
 RunsLines-more goes_on as_long texts end i old mid new names lines line a b c lt at so_far one =
     let said = statement_of line in
     let saids = take i (map statement_of lines) in
     let more : take (i + 1) (map statement_of lines) ≡ saids ++ said ∷ [] =
-    take-map statement_of (i + 1) lines ∙ map_more statement_of lines i line lt ∙ ap (λ l. map statement_of (take i lines) ++ statement_of l ∷ []) (sym at) ∙ ap (λ xs. xs ++ said ∷ []) (sym (take-map statement_of i lines)) in
+    take-map statement_of (i + 1) lines ∙ map_more statement_of lines i line lt
+    ∙ ap (λ l. map statement_of (take i lines) ++ statement_of l ∷ []) (sym at)
+    ∙ ap (λ xs. xs ++ said ∷ []) (sym (take-map statement_of i lines)) in
     let added = one.serves.0 in
-    let form : Form old.limit mid.entries said added one.reply = subst (λ l. Form l mid.entries said added one.reply) so_far.limit one.serves.2 in
-    let run = goes_on old.limit old.entries saids so_far.replies mid.entries said added one.reply so_far.run form in
+    let form : Form old.limit mid.entries said added one.reply =
+    subst (λ l. Form l mid.entries said added one.reply) so_far.limit one.serves.2 in
+    let run =
+    goes_on old.limit old.entries saids so_far.replies mid.entries said added one.reply so_far.run form in
     let long = as_long old.limit old.entries saids so_far.replies mid.entries so_far.run in
-    let text = Writes-after end a b c (texts_of names saids so_far.replies) (reply_text said.line (name_at names said.session) one.reply) so_far.written one.written in
+    let text =
+    Writes-after end a b c (texts_of names saids so_far.replies)
+    (reply_text said.line (name_at names said.session) one.reply) so_far.written one.written in
     record {
       replies = so_far.replies ++ one.reply ∷ [];
       run = rw (more, one.serves.1.grown) run;
@@ -86,34 +105,49 @@ RunsLines-more goes_on as_long texts end i old mid new names lines line a b c lt
 
 -- ---- a whole script
 
-pub lines_rise : (low : ℕ) (lines : List ScriptLine) → RisesFrom low lines → LinesRise low (map statement_of lines)
+pub lines_rise : (low : ℕ) (lines : List ScriptLine) → RisesFrom low lines
+    → LinesRise low (map statement_of lines)
 lines_rise low [] h = tt
 lines_rise low (line ∷ lines) h = (h.0, lines_rise line.line lines h.1)
 
-module _ (whole : RunsAreLegal) (parts : CutRunsAreLegal) (limit : ℕ) (wanted : Bool) (script : Script) (log : Log) (rise : LinesRise 0 (statements script)) (regular : IsRegular log.entries) (few : length log.entries ≤ log.limit) where
+module _ (whole : RunsAreLegal) (parts : CutRunsAreLegal) (limit : ℕ) (wanted : Bool) (script : Script)
+    (log : Log) (rise : LinesRise 0 (statements script)) (regular : IsRegular log.entries)
+    (few : length log.entries ≤ log.limit) where
   -- the history's text where some first lines are all
   abbrev tail : ℕ → List ℕ
   tail count = cond (wanted && nat_le (length script.lines) count) (history_text script.names log.entries) []
 
-  part_of : (end : End) (count : ℕ) (a b : Option (List ℕ)) (r : RunsLines end count (empty_log limit) log script.names script.lines a b) (c : Option (List ℕ))
-      → AppendsPart a c (texts_of script.names (take count (statements script)) r.replies ++ tail count) → PartScript limit wanted script log.entries a c
+  part_of : (end : End) (count : ℕ) (a b : Option (List ℕ))
+      (r : RunsLines end count (empty_log limit) log script.names script.lines a b) (c : Option (List ℕ))
+      → AppendsPart a c (texts_of script.names (take count (statements script)) r.replies ++ tail count)
+      → PartScript limit wanted script log.entries a c
   part_of end count a b r c text =
-      let same : statements (cut count script) ≡ take count (statements script) = sym (take-map statement_of count script.lines) in
+      let same : statements (cut count script) ≡ take count (statements script) =
+      sym (take-map statement_of count script.lines) in
       record {
         lines = count;
         replies = r.replies;
-        legal = parts limit count script r.replies log.entries rise r.run regular (omega (arith, few, r.limit));
-        written = subst (λ saids. AppendsPart a c (texts_of script.names saids r.replies ++ tail count)) (sym same) text;
+        legal =
+            parts limit count script r.replies log.entries rise r.run regular (omega (arith, few, r.limit));
+        written =
+            subst (λ saids. AppendsPart a c (texts_of script.names saids r.replies ++ tail count))
+            (sym same) text;
       }
 
-  stopped : (end : End) (count : ℕ) (a b : Option (List ℕ)) (r : RunsLines end count (empty_log limit) log script.names script.lines a b)
-      → AppendsPart a b (texts_of script.names (take count (statements script)) r.replies) → PartScript limit wanted script log.entries a b
+  stopped : (end : End) (count : ℕ) (a b : Option (List ℕ))
+      (r : RunsLines end count (empty_log limit) log script.names script.lines a b)
+      → AppendsPart a b (texts_of script.names (take count (statements script)) r.replies)
+      → PartScript limit wanted script log.entries a b
   stopped end count a b r text = part_of end count a b r b (AppendsPart-longer a b _ (tail count) text)
 
-  all_of : (count : ℕ) (a b : Option (List ℕ)) (r : RunsLines Finished count (empty_log limit) log script.names script.lines a b) (c : Option (List ℕ)) → count ≡ length script.lines
-      → Appends b c (cond wanted (history_text script.names log.entries) []) → WholeScript limit wanted script log.entries a c
+  all_of : (count : ℕ) (a b : Option (List ℕ))
+      (r : RunsLines Finished count (empty_log limit) log script.names script.lines a b) (c : Option (List ℕ))
+      → count ≡ length script.lines
+      → Appends b c (cond wanted (history_text script.names log.entries) [])
+      → WholeScript limit wanted script log.entries a c
   all_of count a b r c all text =
-      let same : take count (statements script) ≡ statements script = take_all count (statements script) (omega (arith, length-map script.lines statement_of)) in
+      let same : take count (statements script) ≡ statements script =
+      take_all count (statements script) (omega (arith, length-map script.lines statement_of)) in
       let run = rw same at r.run in
       let replies = rw same at r.written in
       record {
@@ -122,77 +156,133 @@ module _ (whole : RunsAreLegal) (parts : CutRunsAreLegal) (limit : ℕ) (wanted 
         written = Appends-trans a b c _ _ replies text;
       }
 
-  tail_is : (count : ℕ) → count ≡ length script.lines → wanted ≡ true → tail count ≡ history_text script.names log.entries
+  tail_is : (count : ℕ) → count ≡ length script.lines → wanted ≡ true
+      → tail count ≡ history_text script.names log.entries
   tail_is count all wish =
       let over : nat_le (length script.lines) count ≡ true = le-leb _ _ (omega arith) in
-      ap (λ w. cond (w && nat_le (length script.lines) count) (history_text script.names log.entries) []) wish ∙ ap (λ w. cond w (history_text script.names log.entries) []) over
+      ap (λ w. cond (w && nat_le (length script.lines) count) (history_text script.names log.entries) []) wish
+      ∙ ap (λ w. cond w (history_text script.names log.entries) []) over
 
   -- the history's text behind all the replies
-  with_history : (end : End) (count : ℕ) (a b c : Option (List ℕ)) (r : RunsLines Finished count (empty_log limit) log script.names script.lines a b) → count ≡ length script.lines → wanted ≡ true
-      → Writes end b c (history_text script.names log.entries) → ScriptEnds end limit wanted script log.entries a c
+  with_history : (end : End) (count : ℕ) (a b c : Option (List ℕ))
+      (r : RunsLines Finished count (empty_log limit) log script.names script.lines a b)
+      → count ≡ length script.lines → wanted ≡ true
+      → Writes end b c (history_text script.names log.entries)
+      → ScriptEnds end limit wanted script log.entries a c
   with_history Finished count a b c r all wish h =
-      let whole_text : cond wanted (history_text script.names log.entries) [] ≡ history_text script.names log.entries = ap (λ w. cond w (history_text script.names log.entries) []) wish in
+      let whole_text : cond wanted (history_text script.names log.entries) []
+      ≡ history_text script.names log.entries =
+      ap (λ w. cond w (history_text script.names log.entries) []) wish in
       all_of count a b r c all (rw whole_text h)
-  with_history SinkFailed count a b c r all wish h = part_of Finished count a b r c (rw (tail_is count all wish) (AppendsPart-after a b c _ (history_text script.names log.entries) r.written h))
-  with_history NoMemory count a b c r all wish h = part_of Finished count a b r c (rw (tail_is count all wish) (AppendsPart-after a b c _ (history_text script.names log.entries) r.written h))
+  with_history SinkFailed count a b c r all wish h =
+      part_of Finished count a b r c
+      (rw (tail_is count all wish)
+      (AppendsPart-after a b c _ (history_text script.names log.entries) r.written h))
+  with_history NoMemory count a b c r all wish h =
+      part_of Finished count a b r c
+      (rw (tail_is count all wish)
+      (AppendsPart-after a b c _ (history_text script.names log.entries) r.written h))
   with_history BadLine count a b c r all wish h = absurd h
   with_history Usage count a b c r all wish h = absurd h
   with_history SourceFailed count a b c r all wish h = absurd h
   with_history TooLarge count a b c r all wish h = absurd h
 
-  by_wish : (lines end : End) (count : ℕ) (a b c : Option (List ℕ)) (asked : Bool) → (r : RunsLines lines count (empty_log limit) log script.names script.lines a b) → (lines ≡ Finished → count ≡ length script.lines)
-      → wanted ≡ asked → FinishesSo lines end asked b c (history_text script.names log.entries) → ScriptEnds end limit wanted script log.entries a c
+  by_wish : (lines end : End) (count : ℕ) (a b c : Option (List ℕ)) (asked : Bool)
+      → (r : RunsLines lines count (empty_log limit) log script.names script.lines a b)
+      → (lines ≡ Finished → count ≡ length script.lines)
+      → wanted ≡ asked → FinishesSo lines end asked b c (history_text script.names log.entries)
+      → ScriptEnds end limit wanted script log.entries a c
   by_wish Finished end count a b c true r all wish h = with_history end count a b c r (all refl) wish h
   by_wish Finished end count a b c false r all wish h =
-      let none : cond wanted (history_text script.names log.entries) [] ≡ [] = ap (λ w. cond w (history_text script.names log.entries) []) wish in
-      subst (λ e. ScriptEnds e limit wanted script log.entries a c) (sym h.0) (all_of count a b r c (all refl) (rw (none, h.1) (Appends-nil b)))
+      let none : cond wanted (history_text script.names log.entries) [] ≡ [] =
+      ap (λ w. cond w (history_text script.names log.entries) []) wish in
+      subst (λ e. ScriptEnds e limit wanted script log.entries a c) (sym h.0)
+      (all_of count a b r c (all refl) (rw (none, h.1) (Appends-nil b)))
   by_wish SinkFailed end count a b c asked r all is h =
-      subst (λ e. ScriptEnds e limit wanted script log.entries a c) (sym h.0) (subst (PartScript limit wanted script log.entries a) (sym h.1) (stopped SinkFailed count a b r r.written))
+      subst (λ e. ScriptEnds e limit wanted script log.entries a c) (sym h.0)
+      (subst (PartScript limit wanted script log.entries a) (sym h.1)
+      (stopped SinkFailed count a b r r.written))
   by_wish NoMemory end count a b c asked r all is h =
-      subst (λ e. ScriptEnds e limit wanted script log.entries a c) (sym h.0) (subst (PartScript limit wanted script log.entries a) (sym h.1) (stopped NoMemory count a b r r.written))
+      subst (λ e. ScriptEnds e limit wanted script log.entries a c) (sym h.0)
+      (subst (PartScript limit wanted script log.entries a) (sym h.1)
+      (stopped NoMemory count a b r r.written))
   by_wish BadLine end count a b c asked r all is h = absurd r.written
   by_wish Usage end count a b c asked r all is h = absurd r.written
   by_wish SourceFailed end count a b c asked r all is h = absurd r.written
   by_wish TooLarge end count a b c asked r all is h = absurd r.written
 
   -- the lines, and then the history's text, make the whole
-  pub script_ends : (lines end : End) (count : ℕ) (a b c : Option (List ℕ)) (r : RunsLines lines count (empty_log limit) log script.names script.lines a b) → (lines ≡ Finished → count ≡ length script.lines)
-      → FinishesSo lines end wanted b c (history_text script.names log.entries) → ScriptEnds end limit wanted script log.entries a c
+  pub script_ends : (lines end : End) (count : ℕ) (a b c : Option (List ℕ))
+      (r : RunsLines lines count (empty_log limit) log script.names script.lines a b)
+      → (lines ≡ Finished → count ≡ length script.lines)
+      → FinishesSo lines end wanted b c (history_text script.names log.entries)
+      → ScriptEnds end limit wanted script log.entries a c
   script_ends lines end count a b c r all h = by_wish lines end count a b c wanted r all refl h
 
 -- ---- the bytes of a script
 
-pub runs_script : (end : End) (limit : ℕ) (wanted : Bool) (bytes : List ℕ) (script : Script) (h : List Entry) (a b : Option (List ℕ)) → IsScript Play bytes script
+pub runs_script : (end : End) (limit : ℕ) (wanted : Bool) (bytes : List ℕ) (script : Script) (h : List Entry)
+    (a b : Option (List ℕ))
+    → IsScript Play bytes script
     → ScriptEnds end limit wanted script h a b → RunsSo end limit wanted bytes h a b
-runs_script Finished limit wanted bytes script h a b spelled e = record { script = script; spelled = spelled; replies = e.replies; legal = e.legal; written = e.written }
-runs_script SinkFailed limit wanted bytes script h a b spelled e = inr (record { script = script; spelled = spelled; lines = e.lines; replies = e.replies; legal = e.legal; written = e.written })
-runs_script NoMemory limit wanted bytes script h a b spelled e = inr (inr (record { script = script; spelled = spelled; lines = e.lines; replies = e.replies; legal = e.legal; written = e.written }))
+runs_script Finished limit wanted bytes script h a b spelled e =
+    record { script = script; spelled = spelled; replies = e.replies; legal = e.legal; written = e.written }
+runs_script SinkFailed limit wanted bytes script h a b spelled e =
+    inr (record {
+      script = script;
+      spelled = spelled;
+      lines = e.lines;
+      replies = e.replies;
+      legal = e.legal;
+      written = e.written;
+    })
+runs_script NoMemory limit wanted bytes script h a b spelled e =
+    inr (inr (record {
+      script = script;
+      spelled = spelled;
+      lines = e.lines;
+      replies = e.replies;
+      legal = e.legal;
+      written = e.written;
+    }))
 runs_script BadLine limit wanted bytes script h a b spelled e = absurd e
 runs_script Usage limit wanted bytes script h a b spelled e = absurd e
 runs_script SourceFailed limit wanted bytes script h a b spelled e = absurd e
 runs_script TooLarge limit wanted bytes script h a b spelled e = absurd e
 
-pub runs_bad_line : (end : End) (limit : ℕ) (wanted : Bool) (bytes : List ℕ) (line : ℕ) (a b : Option (List ℕ)) → IsBadLine Play bytes line
+pub runs_bad_line : (end : End) (limit : ℕ) (wanted : Bool) (bytes : List ℕ) (line : ℕ)
+    (a b : Option (List ℕ))
+    → IsBadLine Play bytes line
     → TellsLine end line a b → RunsSo end limit wanted bytes [] a b
-runs_bad_line BadLine limit wanted bytes line a b bad e = record { line = line; bad = bad; none = refl; written = e }
-runs_bad_line SinkFailed limit wanted bytes line a b bad e = inl (record { line = line; bad = bad; none = refl; written = e })
-runs_bad_line NoMemory limit wanted bytes line a b bad e = inr (inl (record { line = line; bad = bad; none = refl; written = e }))
+runs_bad_line BadLine limit wanted bytes line a b bad e =
+    record { line = line; bad = bad; none = refl; written = e }
+runs_bad_line SinkFailed limit wanted bytes line a b bad e =
+    inl (record { line = line; bad = bad; none = refl; written = e })
+runs_bad_line NoMemory limit wanted bytes line a b bad e =
+    inr (inl (record { line = line; bad = bad; none = refl; written = e }))
 runs_bad_line Finished limit wanted bytes line a b bad e = absurd e
 runs_bad_line Usage limit wanted bytes line a b bad e = absurd e
 runs_bad_line SourceFailed limit wanted bytes line a b bad e = absurd e
 runs_bad_line TooLarge limit wanted bytes line a b bad e = absurd e
 
-pub runs_nothing : (limit : ℕ) (wanted : Bool) (bytes : List ℕ) (a : Option (List ℕ)) → RunsSo NoMemory limit wanted bytes [] a a
+pub runs_nothing : (limit : ℕ) (wanted : Bool) (bytes : List ℕ) (a : Option (List ℕ))
+    → RunsSo NoMemory limit wanted bytes [] a a
 runs_nothing limit wanted bytes a = inl (record { none = refl; quiet = Appends-nil a })
 
 -- ---- the whole call
 
-pub ends_read : (end : End) (wish : Option Bool) (wanted : Bool) (bytes : List ℕ) (left rest : Option (List ℕ)) (h : List Entry) (a b : Option (List ℕ)) → wish ≡ Some wanted → IsRead left rest bytes
+pub ends_read : (end : End) (wish : Option Bool) (wanted : Bool) (bytes : List ℕ)
+    (left rest : Option (List ℕ)) (h : List Entry) (a b : Option (List ℕ))
+    → wish ≡ Some wanted → IsRead left rest bytes
     → RunsSo end history_entries wanted bytes h a b → EndsSo end wish left rest h a b
-ends_read Finished wish wanted bytes left rest h a b wished read run = record { wanted = wanted; wished = wished; bytes = bytes; read = read; run = run }
-ends_read BadLine wish wanted bytes left rest h a b wished read run = record { wanted = wanted; wished = wished; bytes = bytes; read = read; run = run }
-ends_read SinkFailed wish wanted bytes left rest h a b wished read run = record { wanted = wanted; wished = wished; bytes = bytes; read = read; run = run }
-ends_read NoMemory wish wanted bytes left rest h a b wished read run = inr (record { wanted = wanted; wished = wished; bytes = bytes; read = read; run = run })
+ends_read Finished wish wanted bytes left rest h a b wished read run =
+    record { wanted = wanted; wished = wished; bytes = bytes; read = read; run = run }
+ends_read BadLine wish wanted bytes left rest h a b wished read run =
+    record { wanted = wanted; wished = wished; bytes = bytes; read = read; run = run }
+ends_read SinkFailed wish wanted bytes left rest h a b wished read run =
+    record { wanted = wanted; wished = wished; bytes = bytes; read = read; run = run }
+ends_read NoMemory wish wanted bytes left rest h a b wished read run =
+    inr (record { wanted = wanted; wished = wished; bytes = bytes; read = read; run = run })
 ends_read Usage wish wanted bytes left rest h a b wished read run = absurd run
 ends_read SourceFailed wish wanted bytes left rest h a b wished read run = absurd run
 ends_read TooLarge wish wanted bytes left rest h a b wished read run = absurd run
@@ -200,8 +290,11 @@ ends_read TooLarge wish wanted bytes left rest h a b wished read run = absurd ru
 -- ---- the parts of one line
 
 -- a line whose body is this one
-pub runs_line : (end : End) (old new : Log) (names : List (List ℕ)) (line : ScriptLine) (body name text : List ℕ) (reply : Reply) (a b : Option (List ℕ)) → body ≡ body_of line.act
-    → Serves old new (record { line = line.line; session = line.name; body = body }) reply → text ≡ reply_text line.line name reply → name_at names line.name ≡ name → Writes end a b text
+pub runs_line : (end : End) (old new : Log) (names : List (List ℕ)) (line : ScriptLine)
+    (body name text : List ℕ) (reply : Reply) (a b : Option (List ℕ))
+    → body ≡ body_of line.act
+    → Serves old new (record { line = line.line; session = line.name; body = body }) reply
+    → text ≡ reply_text line.line name reply → name_at names line.name ≡ name → Writes end a b text
     → RunsLine end old new names (statement_of line) a b
 runs_line end old new names line body name text reply a b act serves is named written =
     let whole : said line body ≡ statement_of line = ap (said line) act in

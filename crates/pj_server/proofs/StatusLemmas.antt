@@ -1,5 +1,6 @@
 -- What a status says of how the call ended.
-use Rattle.std.proofs.Common.{◌≡◌, ℕ, ◌+◌, ◌≤◌, ◌⊎◌, Bool, List, [], ◌∷◌, ◌++◌, length, Option, Some, None, refl, ap, subst, ◌∙◌, inl, inr, append-nil, lit<, arith}
+use Rattle.std.proofs.Common.{◌≡◌, ℕ, ◌+◌, ◌≤◌, ◌⊎◌, Bool, List, [], ◌∷◌, ◌++◌, length, Option, Some}
+use Rattle.std.proofs.Common.{None, refl, ap, subst, ◌∙◌, inl, inr, append-nil, lit<, arith}
 use Rattle.std.specs.Prelude.{Contains}
 use Rattle.std.specs.Io.KnownBytes.{Consumes, IsAtEnd}
 use Rattle.std.proofs.lemmas.List.{length-append}
@@ -9,7 +10,8 @@ use Rattle.pj_parse.specs.Lines.{IsScript}
 use Rattle.pj_parse.specs.LineLaws.{NoScriptWithABadLine}
 use Rattle.pj_journal.specs.declared.entry.Entry.{Entry}
 use Rattle.pj_server.specs.declared.end.End.{End}
-use Rattle.pj_server.specs.declared.end.End.TheVariants.{Usage, SourceFailed, TooLarge, BadLine, SinkFailed, NoMemory, Finished}
+use Rattle.pj_server.specs.declared.end.End.TheVariants.{Usage, SourceFailed, TooLarge, BadLine}
+use Rattle.pj_server.specs.declared.end.End.TheVariants.{SinkFailed, NoMemory, Finished}
 use Rattle.pj_server.specs.Status.{status_of}
 use Rattle.pj_server.specs.Played.{script_bytes, EndsSo}
 
@@ -24,25 +26,36 @@ statuses NoMemory = (5, lit< tt, refl)
 statuses TooLarge = (6, lit< tt, refl)
 
 -- a source that told its bytes had those that were read to its end
-all_read : (bytes found : List ℕ) (rest : Option (List ℕ)) → Consumes (Some bytes) rest found → IsAtEnd rest → bytes ≡ found
+all_read : (bytes found : List ℕ) (rest : Option (List ℕ)) → Consumes (Some bytes) rest found → IsAtEnd rest
+    → bytes ≡ found
 all_read bytes found None c e = absurd c
 all_read bytes found (Some more) c e = c ∙ ap (λ xs. found ++ xs) e ∙ append-nil found
 
-too_long : (bytes found : List ℕ) (rest : Option (List ℕ)) → Consumes (Some bytes) rest found → length found ≡ script_bytes + 1 → length bytes ≤ script_bytes → ⊥
+too_long : (bytes found : List ℕ) (rest : Option (List ℕ)) → Consumes (Some bytes) rest found
+    → length found ≡ script_bytes + 1 → length bytes ≤ script_bytes → ⊥
 too_long bytes found None c long few = absurd c
 too_long bytes found (Some more) c long few = absurd (omega (arith, ap length c, length-append found more))
 
 -- a script of the grammar is run to its end, or there is no memory
-pub completes : NoScriptWithABadLine → (end : End) (wish : Option Bool) (left rest : Option (List ℕ)) (h : List Entry) (a b : Option (List ℕ)) → EndsSo end wish left rest h a b
-    → (end ≡ SourceFailed → ⊥) → (end ≡ SinkFailed → ⊥) → (bytes : List ℕ) (script : Script) → left ≡ Some bytes → length bytes ≤ script_bytes → IsScript Play bytes script → (wish ≡ None → ⊥)
+pub completes : NoScriptWithABadLine
+    → (end : End) (wish : Option Bool) (left rest : Option (List ℕ)) (h : List Entry) (a b : Option (List ℕ))
+    → EndsSo end wish left rest h a b
+    → (end ≡ SourceFailed → ⊥) → (end ≡ SinkFailed → ⊥) → (bytes : List ℕ) (script : Script)
+    → left ≡ Some bytes → length bytes ≤ script_bytes → IsScript Play bytes script → (wish ≡ None → ⊥)
     → (status_of end ≡ 0) ⊎ (status_of end ≡ 6)
-completes law Usage wish left rest h a b ends source sink bytes script told few spelled taken = absurd (taken ends.0)
-completes law SourceFailed wish left rest h a b ends source sink bytes script told few spelled taken = absurd (source refl)
+completes law Usage wish left rest h a b ends source sink bytes script told few spelled taken =
+    absurd (taken ends.0)
+completes law SourceFailed wish left rest h a b ends source sink bytes script told few spelled taken =
+    absurd (source refl)
 completes law TooLarge wish left rest h a b ends source sink bytes script told few spelled taken =
     absurd (too_long bytes ends.1.0 rest (subst (λ l. Consumes l rest ends.1.0) told ends.1.2) ends.1.1 few)
 completes law BadLine wish left rest h a b ends source sink bytes script told few spelled taken =
-    let same = all_read bytes ends.bytes rest (subst (λ l. Consumes l rest ends.bytes) told ends.read.consumed) ends.read.at_end in
-    absurd (law Play ends.bytes script ends.run.line (subst (λ bs. IsScript Play bs script) same spelled) ends.run.bad)
-completes law SinkFailed wish left rest h a b ends source sink bytes script told few spelled taken = absurd (sink refl)
+    let same =
+    all_read bytes ends.bytes rest
+    (subst (λ l. Consumes l rest ends.bytes) told ends.read.consumed) ends.read.at_end in
+    absurd (law Play ends.bytes script ends.run.line
+    (subst (λ bs. IsScript Play bs script) same spelled) ends.run.bad)
+completes law SinkFailed wish left rest h a b ends source sink bytes script told few spelled taken =
+    absurd (sink refl)
 completes law NoMemory wish left rest h a b ends source sink bytes script told few spelled taken = inr refl
 completes law Finished wish left rest h a b ends source sink bytes script told few spelled taken = inl refl

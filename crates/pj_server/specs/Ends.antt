@@ -23,13 +23,15 @@ TellsLine ends.SourceFailed line before after = ⊥
 TellsLine ends.TooLarge line before after = ⊥
 
 -- the whole script was played
-pub record WholeScript (limit : ℕ) (wanted : Bool) (script : Script) (h : List Entry) (before after : Option (List ℕ)) : Type 0 where
+pub record WholeScript (limit : ℕ) (wanted : Bool) (script : Script) (h : List Entry)
+    (before after : Option (List ℕ)) : Type 0 where
   pub replies : List Reply
   pub legal : IsLegal limit script h replies
   pub written : Appends before after (output wanted script h replies)
 
 -- some of its lines were
-pub record PartScript (limit : ℕ) (wanted : Bool) (script : Script) (h : List Entry) (before after : Option (List ℕ)) : Type 0 where
+pub record PartScript (limit : ℕ) (wanted : Bool) (script : Script) (h : List Entry)
+    (before after : Option (List ℕ)) : Type 0 where
   pub lines : ℕ
   pub replies : List Reply
   pub legal : IsLegal limit (cut lines script) h replies

@@ -30,29 +30,34 @@ pub record Adds (old new : Log) (added : List Entry) : Type 0 where
 
 -- the statement made its moves and got its reply
 abbrev pub Serves : Log → Log → Said → Reply → Type 0
-Serves old new said reply = (added : List Entry) × Adds old new added × Form old.limit old.entries said added reply
+Serves old new said reply =
+    (added : List Entry) × Adds old new added × Form old.limit old.entries said added reply
 
 -- the bound statement fits these tables
 abbrev pub BoundFits : List Table → Bound → Type 0
 BoundFits tables (bounds.Create table) = IsUnknown tables table.name × (length tables < 64)
 BoundFits tables (bounds.Insert place rows) =
-    ((table : Table) × (slice_get tables place ≡ Some table) × (rows.kinds ≡ kinds_of table)) × HaveKinds rows.kinds rows.rows
+    ((table : Table) × (slice_get tables place ≡ Some table) × (rows.kinds ≡ kinds_of table))
+    × HaveKinds rows.kinds rows.rows
 BoundFits tables (bounds.Select place query) = place < length tables
 
 -- no move, or the one that the bound statement may stop after
 abbrev pub BoundStops : (Bound → What → Type 0) → Said → Bound → List Entry → Type 0
-BoundStops may said bound added = (added ≡ []) ⊎ ((what : What) × may bound what × (added ≡ entry_of said what ∷ []))
+BoundStops may said bound added =
+    (added ≡ []) ⊎ ((what : What) × may bound what × (added ≡ entry_of said what ∷ []))
 
 -- the bound statement made its moves, or ended early
 abbrev pub BoundDone : Log → Said → Bound → List Entry → Reply → Type 0
 BoundDone old said bound added reply =
     BoundForm old.entries said bound added reply
     ⊎ ((reply ≡ replies.Refused refusals.NoMemory) × BoundStops IsFirstMove said bound added)
-    ⊎ ((reply ≡ replies.Refused (refusals.Limit History)) × BoundStops IsBegun said bound added × (length old.entries + length added ≡ old.limit))
+    ⊎ ((reply ≡ replies.Refused (refusals.Limit History)) × BoundStops IsBegun said bound added
+    × (length old.entries + length added ≡ old.limit))
 
 -- a bound statement was done
 abbrev pub Does : Log → Log → Said → Bound → Reply → Type 0
-Does old new said bound reply = (added : List Entry) × Adds old new added × BoundDone old said bound added reply
+Does old new said bound reply =
+    (added : List Entry) × Adds old new added × BoundDone old said bound added reply
 
 -- the move changes neither tables nor rows
 abbrev pub ChangesNothing : What → Type 0

@@ -1,5 +1,6 @@
 -- What `play` read, wrote and kept, by how it ended (docs/MODEL.md, "The headline").
-use Rattle.std.specs.Prelude.{◌≡◌, ℕ, ◌≤◌, ◌⊎◌, Bool, ◌&&◌, nat_le, List, [], ◌++◌, length, Option, Some, None, if◌then◌else◌, codes}
+use Rattle.std.specs.Prelude.{◌≡◌, ℕ, ◌≤◌, ◌⊎◌, Bool, ◌&&◌, nat_le, List, [], ◌++◌}
+use Rattle.std.specs.Prelude.{length, Option, Some, None, if◌then◌else◌, codes}
 use Rattle.std.specs.Fmt.{decimal}
 use Rattle.std.specs.Io.KnownBytes.{Appends, Consumes, IsAtEnd}
 use Rattle.pj_io.specs.Transfers.{AppendsPart, TookTooMuch, TookAtMost}
@@ -53,22 +54,27 @@ pub record TellsPart (bytes : List ℕ) (h : List Entry) (before after : Option 
 
 -- what is written for a script: its replies, and the history's text where it is wanted
 abbrev pub output : Bool → Script → List Entry → List Reply → List ℕ
-output wanted script h replies = replies_text script replies ++ (if wanted then history_text script.names h else [])
+output wanted script h replies =
+    replies_text script replies ++ (if wanted then history_text script.names h else [])
 
 -- what is written for the first lines: the history's text stands behind the last line alone
 abbrev pub output_of_part : ℕ → Bool → Script → List Entry → List Reply → List ℕ
-output_of_part lines wanted script h replies = output (wanted && nat_le (length script.lines) lines) (cut lines script) h replies
+output_of_part lines wanted script h replies =
+    output (wanted && nat_le (length script.lines) lines) (cut lines script) h replies
 
 -- the bytes spell a script, the history is legal for it with these replies, and their text was written
-pub record PlaysScript (limit : ℕ) (wanted : Bool) (bytes : List ℕ) (h : List Entry) (before after : Option (List ℕ)) : Type 0 where
+pub record PlaysScript (limit : ℕ) (wanted : Bool) (bytes : List ℕ) (h : List Entry)
+    (before after : Option (List ℕ)) : Type 0 where
   pub script : Script
   pub spelled : IsScript Play bytes script
   pub replies : List Reply
   pub legal : IsLegal limit script h replies
   pub written : Appends before after (output wanted script h replies)
 
--- the bytes spell a script, the history is legal for it cut after some lines, and a front of the text of that was written
-pub record PlaysPart (limit : ℕ) (wanted : Bool) (bytes : List ℕ) (h : List Entry) (before after : Option (List ℕ)) : Type 0 where
+-- the bytes spell a script, the history is legal for it cut after some lines, and a front of the text of that
+-- was written
+pub record PlaysPart (limit : ℕ) (wanted : Bool) (bytes : List ℕ) (h : List Entry)
+    (before after : Option (List ℕ)) : Type 0 where
   pub script : Script
   pub spelled : IsScript Play bytes script
   pub lines : ℕ
@@ -80,7 +86,8 @@ pub record PlaysPart (limit : ℕ) (wanted : Bool) (bytes : List ℕ) (h : List 
 abbrev pub RunsSo : End → ℕ → Bool → List ℕ → List Entry → Option (List ℕ) → Option (List ℕ) → Type 0
 RunsSo ends.Finished limit wanted bytes h before after = PlaysScript limit wanted bytes h before after
 RunsSo ends.BadLine limit wanted bytes h before after = TellsBadLine bytes h before after
-RunsSo ends.SinkFailed limit wanted bytes h before after = TellsPart bytes h before after ⊎ PlaysPart limit wanted bytes h before after
+RunsSo ends.SinkFailed limit wanted bytes h before after =
+    TellsPart bytes h before after ⊎ PlaysPart limit wanted bytes h before after
 RunsSo ends.NoMemory limit wanted bytes h before after =
     DoesNothing h before after ⊎ TellsPart bytes h before after ⊎ PlaysPart limit wanted bytes h before after
 RunsSo ends.Usage limit wanted bytes h before after = ⊥
@@ -88,7 +95,8 @@ RunsSo ends.SourceFailed limit wanted bytes h before after = ⊥
 RunsSo ends.TooLarge limit wanted bytes h before after = ⊥
 
 -- the words are taken, all bytes were read, and their run ended so
-pub record Reads (end : End) (wish : Option Bool) (left rest : Option (List ℕ)) (h : List Entry) (before after : Option (List ℕ)) : Type 0 where
+pub record Reads (end : End) (wish : Option Bool) (left rest : Option (List ℕ)) (h : List Entry)
+    (before after : Option (List ℕ)) : Type 0 where
   pub wanted : Bool
   pub wished : wish ≡ Some wanted
   pub bytes : List ℕ
@@ -99,13 +107,19 @@ pub record Reads (end : End) (wish : Option Bool) (left rest : Option (List ℕ)
 abbrev pub IsTaken : Option Bool → Type 0
 IsTaken wish = (wanted : Bool) × (wish ≡ Some wanted)
 
--- what holds by how the call ended: `left` and `rest` is what the source had left before and after, `before` and `after` what the sink had taken
-abbrev pub EndsSo : End → Option Bool → Option (List ℕ) → Option (List ℕ) → List Entry → Option (List ℕ) → Option (List ℕ) → Type 0
-EndsSo ends.Usage wish left rest h before after = (wish ≡ None) × Consumes left rest [] × DoesNothing h before after
-EndsSo ends.SourceFailed wish left rest h before after = IsTaken wish × TookAtMost script_bytes left rest × DoesNothing h before after
-EndsSo ends.TooLarge wish left rest h before after = IsTaken wish × TookTooMuch script_bytes left rest × DoesNothing h before after
+-- what holds by how the call ended: `left` and `rest` is what the source had left before and after, `before`
+-- and `after` what the sink had taken
+abbrev pub EndsSo : End → Option Bool → Option (List ℕ) → Option (List ℕ) → List Entry → Option (List ℕ)
+    → Option (List ℕ) → Type 0
+EndsSo ends.Usage wish left rest h before after =
+    (wish ≡ None) × Consumes left rest [] × DoesNothing h before after
+EndsSo ends.SourceFailed wish left rest h before after =
+    IsTaken wish × TookAtMost script_bytes left rest × DoesNothing h before after
+EndsSo ends.TooLarge wish left rest h before after =
+    IsTaken wish × TookTooMuch script_bytes left rest × DoesNothing h before after
 EndsSo ends.NoMemory wish left rest h before after =
-    (IsTaken wish × TookAtMost script_bytes left rest × DoesNothing h before after) ⊎ Reads ends.NoMemory wish left rest h before after
+    (IsTaken wish × TookAtMost script_bytes left rest × DoesNothing h before after)
+    ⊎ Reads ends.NoMemory wish left rest h before after
 EndsSo ends.BadLine wish left rest h before after = Reads ends.BadLine wish left rest h before after
 EndsSo ends.SinkFailed wish left rest h before after = Reads ends.SinkFailed wish left rest h before after
 EndsSo ends.Finished wish left rest h before after = Reads ends.Finished wish left rest h before after

@@ -23,13 +23,15 @@ Writes ends.SourceFailed before after text = ⊥
 Writes ends.TooLarge before after text = ⊥
 
 -- a statement was run, and its reply was written
-pub record RunsLine (end : End) (old new : Log) (names : List (List ℕ)) (said : Said) (before after : Option (List ℕ)) : Type 0 where
+pub record RunsLine (end : End) (old new : Log) (names : List (List ℕ)) (said : Said)
+    (before after : Option (List ℕ)) : Type 0 where
   pub reply : Reply
   pub serves : Serves old new said reply
   pub written : Writes end before after (reply_text said.line (name_at names said.session) reply)
 
 -- the first lines were run, and their replies were written
-pub record RunsLines (end : End) (count : ℕ) (old new : Log) (names : List (List ℕ)) (lines : List ScriptLine) (before after : Option (List ℕ)) : Type 0 where
+pub record RunsLines (end : End) (count : ℕ) (old new : Log) (names : List (List ℕ)) (lines : List ScriptLine)
+    (before after : Option (List ℕ)) : Type 0 where
   pub replies : List Reply
   pub run : Run old.limit old.entries (take count (map statement_of lines)) replies new.entries
   pub limit : new.limit ≡ old.limit

@@ -11,7 +11,8 @@ pub record StoreStands (h : List Entry) (t : ℕ) (store : Store) : Type 0 where
   pub kinds : (table : Table) → slice_get (catalog h) t ≡ Some table → store.rows.kinds ≡ kinds_of table
   pub number : store.next ≡ next h t
 
--- tables and stores are those that the history leaves, and a table that isn't there has no row and has drawn no number
+-- tables and stores are those that the history leaves, and a table that isn't there has no row and has drawn
+-- no number
 pub record Stands (h : List Entry) (held : List Table) (stores : List Store) : Type 0 where
   pub regular : IsRegular h
   pub tables : held ≡ catalog h

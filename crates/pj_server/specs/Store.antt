@@ -5,4 +5,5 @@ use Rattle.pj_server.specs.declared.store.Store.{Store}
 
 -- a store with these rows behind its own
 abbrev pub with_rows : KindedRows → Store → Store
-with_rows rows store = record { rows = record store.rows { rows = store.rows.rows ++ rows.rows }; next = store.next + 1 }
+with_rows rows store =
+    record { rows = record store.rows { rows = store.rows.rows ++ rows.rows }; next = store.next + 1 }

@@ -4,7 +4,8 @@ use Rattle.std.specs.Str.{bytes_eq}
 use Rattle.pj_server.specs.declared.telling.About.{About}
 use Rattle.pj_server.specs.declared.telling.About.TheVariants as abouts
 
--- what the words ask, the program's name first: whether the history's text is wanted; none where they aren't taken
+-- what the words ask, the program's name first: whether the history's text is wanted; none where they aren't
+-- taken
 abbrev pub wish_of : List (List ℕ) → Option Bool
 wish_of [] = Some false
 wish_of (program ∷ []) = Some false

@@ -44,7 +44,8 @@ fn run_line<W: Sink>(
     sink: &mut W,
 ) -> End
     requires { line.now.name < length names.now }
-    ensures run { RunsLine result server.old server.new names.now (statement_of line.now) (W.taken sink.old) (W.taken sink.new) }
+    ensures run { RunsLine result server.old server.new names.now (statement_of line.now) (W.taken sink.old)
+        (W.taken sink.new) }
     ensures later { W.faults sink.old ≤ W.faults sink.new }
     ensures failed { result ≡ End.SinkFailed → Rose (W.faults sink.old) (W.faults sink.new) }
 {
@@ -68,7 +69,10 @@ pub(crate) fn run_lines<W: Sink>(
     sink: &mut W,
 ) -> End
     requires { AllByRecursion (λ line. line.name < length names.now) lines.now }
-    ensures run { (count : ℕ) × RunsLines result count server.old server.new names.now lines.now (W.taken sink.old) (W.taken sink.new) × (result ≡ End.Finished → count ≡ length lines.now) }
+    ensures run { (count : ℕ)
+        × RunsLines result count server.old server.new names.now lines.now (W.taken sink.old)
+        (W.taken sink.new)
+        × (result ≡ End.Finished → count ≡ length lines.now) }
     ensures later { W.faults sink.old ≤ W.faults sink.new }
     ensures failed { result ≡ End.SinkFailed → Rose (W.faults sink.old) (W.faults sink.new) }
 {

@@ -1,5 +1,7 @@
-//! The top call of `projplay`: from the bytes of a script to the bytes of its replies and the history of its run.
-ghost use Rattle.std.specs.Prelude.{◌≡◌, ℕ, ◌<◌, ◌≤◌, ◌↔◌, ◌⊎◌, List, [], ◌∷◌, length, map, Contains, Some, None, string_bytes, IfOk};
+//! The top call of `projplay`: from the bytes of a script to the bytes of its replies and the history of its
+//! run.
+ghost use Rattle.std.specs.Prelude.{◌≡◌, ℕ, ◌<◌, ◌≤◌, ◌↔◌, ◌⊎◌, List, [], ◌∷◌, length};
+ghost use Rattle.std.specs.Prelude.{map, Contains, Some, None, string_bytes, IfOk};
 ghost use Rattle.std.specs.List.{AllByRecursion};
 ghost use Rattle.std.specs.Io.KnownBytes.{Consumes};
 ghost use Rattle.pj_io.specs.Faults.{Rose};
@@ -11,7 +13,8 @@ ghost use Rattle.pj_legal.specs.Legal.{statements};
 ghost use Rattle.pj_legal.specs.Run.{LinesRise};
 ghost use Rattle.pj_legal.specs.Texts.{history_text as text_of_history};
 ghost use Rattle.pj_server.specs.Words.{wish_of};
-ghost use Rattle.pj_server.specs.Played.{script_bytes, history_entries, DoesNothing, RunsSo, Reads, EndsSo, bad_line_text};
+ghost use Rattle.pj_server.specs.Played.{script_bytes, history_entries, DoesNothing};
+ghost use Rattle.pj_server.specs.Played.{RunsSo, Reads, EndsSo, bad_line_text};
 ghost use Rattle.pj_server.specs.Ends.{TellsLine, ScriptEnds, FinishesSo};
 ghost use Rattle.pj_server.specs.declared.end.End.TheVariants as ends;
 
@@ -49,11 +52,14 @@ pub(crate) struct Played {
     pub(crate) history: Journal,
 }
 
-/// Reads a script of at most 16,777,216 bytes from the source, runs its lines in their order on this thread, and writes
+/// Reads a script of at most 16,777,216 bytes from the source, runs its lines in their order on this thread,
+/// and writes
 /// the reply of each as it comes, and, with the word `--history`, the text of the history behind them.
 ///
-/// The words are the program's name and then nothing or that one word. The statuses are 0 where the script was run and
-/// all was written, 2 for words that aren't taken, 4 where the source failed, 7 for too many bytes, 3 for a bad line,
+/// The words are the program's name and then nothing or that one word. The statuses are 0 where the script
+/// was run and
+/// all was written, 2 for words that aren't taken, 4 where the source failed, 7 for too many bytes, 3 for a
+/// bad line,
 /// 5 where the sink failed, and 6 for want of memory of the call itself.
 pub fn play<R: Source, W: Sink>(
     alloc: Global,
@@ -70,28 +76,42 @@ pub fn play<R: Source, W: Sink>(
     ensures not_too_large { (result.status ≡ 7 → ⊥) → TookAtMost script_bytes (R.left source.old) (R.left source.new) }
 
     // The source's bytes have a bad line, and the first such was told.
-    ensures bad_line { result.status ≡ 3 → Reads ends.BadLine (wish_of (map string_bytes words.now)) (R.left source.old) (R.left source.new)
+    ensures bad_line { result.status ≡ 3
+        → Reads ends.BadLine (wish_of (map string_bytes words.now)) (R.left source.old)
+        (R.left source.new)
         result.history.entries (W.taken sink.old) (W.taken sink.new) }
 
-    // The headline: the source's bytes spell a script, the history is legal for it with these replies, and their text was written.
-    ensures done { result.status ≡ 0 → Reads ends.Finished (wish_of (map string_bytes words.now)) (R.left source.old) (R.left source.new)
+    // The headline: the source's bytes spell a script, the history is legal for it with these replies, and
+    // their text was written.
+    ensures done { result.status ≡ 0
+        → Reads ends.Finished (wish_of (map string_bytes words.now)) (R.left source.old) (R.left source.new)
         result.history.entries (W.taken sink.old) (W.taken sink.new) }
 
-    // The history is legal for the script cut after some lines, and a front of the text of that was written; or a front of the text
+    // The history is legal for the script cut after some lines, and a front of the text of that was written;
+    // or a front of the text
     // of a bad line was.
     ensures sink_failed { result.status ≡ 5 → Rose (W.faults sink.old) (W.faults sink.new) }
-    ensures stopped { result.status ≡ 5 → Reads ends.SinkFailed (wish_of (map string_bytes words.now)) (R.left source.old) (R.left source.new)
+    ensures stopped { result.status ≡ 5
+        → Reads ends.SinkFailed (wish_of (map string_bytes words.now)) (R.left source.old)
+        (R.left source.new)
         result.history.entries (W.taken sink.old) (W.taken sink.new) }
-    ensures starved { result.status ≡ 6 → EndsSo ends.NoMemory (wish_of (map string_bytes words.now)) (R.left source.old) (R.left source.new)
+    ensures starved { result.status ≡ 6
+        → EndsSo ends.NoMemory (wish_of (map string_bytes words.now)) (R.left source.old)
+        (R.left source.new)
         result.history.entries (W.taken sink.old) (W.taken sink.new) }
 
     // Nothing was run, and but for a bad line nothing was written.
-    ensures empty { (result.status ≡ 2) ⊎ (result.status ≡ 3) ⊎ (result.status ≡ 4) ⊎ (result.status ≡ 7) → result.history.entries ≡ [] }
-    ensures quiet { (result.status ≡ 2) ⊎ (result.status ≡ 4) ⊎ (result.status ≡ 7) → DoesNothing result.history.entries (W.taken sink.old) (W.taken sink.new) }
+    ensures empty { (result.status ≡ 2) ⊎ (result.status ≡ 3) ⊎ (result.status ≡ 4) ⊎ (result.status ≡ 7)
+        → result.history.entries ≡ [] }
+    ensures quiet { (result.status ≡ 2) ⊎ (result.status ≡ 4) ⊎ (result.status ≡ 7)
+        → DoesNothing result.history.entries (W.taken sink.old) (W.taken sink.new) }
 
     // A script of the grammar is run to its end, unless there is no memory or the source or the sink fails.
-    ensures complete { (bytes : List ℕ) (script : Script) → R.left source.old ≡ Some bytes → length bytes ≤ script_bytes → IsScript Play bytes script
-        → (wish_of (map string_bytes words.now) ≡ None → ⊥) → (Rose (R.faults source.old) (R.faults source.new) → ⊥) → (Rose (W.faults sink.old) (W.faults sink.new) → ⊥)
+    ensures complete { (bytes : List ℕ) (script : Script) → R.left source.old ≡ Some bytes → length bytes ≤ script_bytes
+        → IsScript Play bytes script
+        → (wish_of (map string_bytes words.now) ≡ None → ⊥)
+        → (Rose (R.faults source.old) (R.faults source.new) → ⊥)
+        → (Rose (W.faults sink.old) (W.faults sink.new) → ⊥)
         → (result.status ≡ 0) ⊎ (result.status ≡ 6) }
 
     ensures statuses { Contains (0 ∷ 2 ∷ 3 ∷ 4 ∷ 5 ∷ 6 ∷ 7 ∷ []) result.status }
@@ -113,7 +133,8 @@ fn play_words<R: Source, W: Sink>(
     source: &mut R,
     sink: &mut W,
 ) -> Played
-    ensures ends { EndsSo result.end (wish_of (map string_bytes words.now)) (R.left source.old) (R.left source.new)
+    ensures ends { EndsSo result.end (wish_of (map string_bytes words.now)) (R.left source.old)
+        (R.left source.new)
         result.history.entries (W.taken sink.old) (W.taken sink.new) }
     ensures source_failed { result.end ≡ End.SourceFailed → Rose (R.faults source.old) (R.faults source.new) }
     ensures sink_failed { result.end ≡ End.SinkFailed → Rose (W.faults sink.old) (W.faults sink.new) }
@@ -169,7 +190,8 @@ pub(crate) fn play_bytes<W: Sink>(
     sink: &mut W,
 ) -> Played
     requires { length bytes.items ≤ 16777216 }
-    ensures runs { RunsSo result.end limit wanted bytes.items result.history.entries (W.taken sink.old) (W.taken sink.new) }
+    ensures runs { RunsSo result.end limit wanted bytes.items result.history.entries (W.taken sink.old)
+        (W.taken sink.new) }
     ensures sink_failed { result.end ≡ End.SinkFailed → Rose (W.faults sink.old) (W.faults sink.new) }
     ensures sink_later { W.faults sink.old ≤ W.faults sink.new }
     ensures limit { result.history.limit ≡ limit }
@@ -217,7 +239,8 @@ fn bad_line(alloc: Global, line: u32) -> Result<Vec<u8>, NoMemory>
     Ok(text)
 }
 
-/// Runs a script with a journal of at most `limit` entries, and writes its replies and, where it is wanted, the
+/// Runs a script with a journal of at most `limit` entries, and writes its replies and, where it is wanted,
+/// the
 /// history's text.
 fn play_script<W: Sink>(
     alloc: Global,
@@ -228,7 +251,8 @@ fn play_script<W: Sink>(
 ) -> Played
     requires rise { LinesRise 0 (statements script.now) }
     requires named { AllByRecursion (λ line. line.name < length script.now.names) script.now.lines }
-    ensures ends { ScriptEnds result.end limit wanted script.now result.history.entries (W.taken sink.old) (W.taken sink.new) }
+    ensures ends { ScriptEnds result.end limit wanted script.now result.history.entries (W.taken sink.old)
+        (W.taken sink.new) }
     ensures sink_failed { result.end ≡ End.SinkFailed → Rose (W.faults sink.old) (W.faults sink.new) }
     ensures sink_later { W.faults sink.old ≤ W.faults sink.new }
     ensures limit { result.history.limit ≡ limit }
@@ -259,7 +283,8 @@ fn finish<W: Sink>(
     journal: &Journal,
     sink: &mut W,
 ) -> End
-    ensures end { FinishesSo lines result wanted (W.taken sink.old) (W.taken sink.new) (text_of_history script.now.names journal.now.entries) }
+    ensures end { FinishesSo lines result wanted (W.taken sink.old) (W.taken sink.new)
+        (text_of_history script.now.names journal.now.entries) }
     ensures failed { result ≡ End.SinkFailed → (lines ≡ End.SinkFailed) ⊎ Rose (W.faults sink.old) (W.faults sink.new) }
     ensures later { W.faults sink.old ≤ W.faults sink.new }
 {

@@ -1,9 +1,9 @@
 //! The answer of a query over rows.
 ghost use Rattle.std.specs.Prelude.{◌≡◌, map, IfOk};
-ghost use Rattle.pj_legal.specs.Answers.{Answers, agg, item_value, item_kind};
+ghost use Rattle.pj_legal.specs.Answers.{Answers, item_value, item_kind};
 
-use pj_legal::{AggCall, Item, Query};
-use pj_value::{AggKind, Kind, NoMemory, PushFault, Rows, Value};
+use pj_legal::{Item, Query};
+use pj_value::{Kind, NoMemory, PushFault, Rows, Value};
 use std::alloc::Global;
 
 /// A right answer of the query over these rows. Takes time linear in the query, whatever the number of rows.
@@ -34,9 +34,8 @@ fn kinds_of(alloc: Global, items: &[Item]) -> Result<Vec<Kind>, NoMemory>
 fn kind_of(item: Item) -> Kind
     ensures { result ≡ item_kind item }
 {
-    let Item::Agg(AggCall { kind }) = item;
-    match kind {
-        AggKind::Count => Kind::Num,
+    match item {
+        Item::Count => Kind::Num,
     }
 }
 
@@ -53,8 +52,7 @@ fn line_of(alloc: Global, items: &[Item], rows: &Rows) -> Result<Vec<Value>, NoM
 fn value_of(item: Item, rows: &Rows) -> Value
     ensures { result ≡ item_value rows.now.rows item }
 {
-    let Item::Agg(AggCall { kind }) = item;
-    match kind {
-        AggKind::Count => Value::Num(rows.len() as u64),
+    match item {
+        Item::Count => Value::Num(rows.len() as u64),
     }
 }

@@ -1,5 +1,5 @@
 //! The state of the server, and the moves that change it.
-ghost use Rattle.std.specs.Prelude.{◌≡◌, ◌<◌, ◌≤◌, ◌↔◌, List, [], ◌∷◌, length, IfOk, IfErr, OnOk, OnErr, map};
+ghost use Rattle.std.specs.Prelude.{◌≡◌, ◌<◌, ◌≤◌, ◌↔◌, List, [], ◌∷◌, length, IfOk, IfErr, OnOk, OnErr};
 ghost use Rattle.pj_value.specs.Rows.{HaveKinds};
 ghost use Rattle.pj_journal.specs.declared.table.Table.{Table};
 ghost use Rattle.pj_journal.specs.History.{catalog, kinds_of, IsRegular, WhatFits};
@@ -10,11 +10,10 @@ ghost use Rattle.pj_legal.specs.Legal.{entry_of};
 use crate::select::answer;
 use crate::store::{Store, append};
 use pj_journal::types::Catalog;
-use pj_journal::{Actor, ColumnDef, Entry, Journal, MoveFault, Table, What};
+use pj_journal::{Actor, Entry, Journal, MoveFault, Table, What};
 use pj_legal::types::{Bound, LimitName, Refusal};
-use pj_legal::{BindFault, Query, Reply, bind};
-use pj_parse::{ThinFault, thin};
-use pj_value::{Kind, NoMemory, Rows};
+use pj_legal::{BindFault, Parsed, Query, Reply, bind, read_statement};
+use pj_value::{NoMemory, Rows};
 use std::alloc::Global;
 use std::marker::Model;
 
@@ -25,7 +24,8 @@ pub(crate) struct By {
     pub(crate) line: u32,
 }
 
-/// The journal, the catalog, and a store for each table in the order of their numbers. Contracts see the journal.
+/// The journal, the catalog, and a store for each table in the order of their numbers. Contracts see the
+/// journal.
 #[derive(Drop)]
 pub(crate) struct Server {
     journal: Journal,
@@ -45,7 +45,15 @@ impl Model for Server {
 }
 
 impl Server {
-    ghost use Rattle.pj_server.specs.Moves.{said_by, Adds, Serves, BoundFits, Does, ChangesNothing, IsReadFault};
+    ghost use Rattle.pj_server.specs.Moves.{
+      said_by,
+      Adds,
+      Serves,
+      BoundFits,
+      Does,
+      ChangesNothing,
+      IsReadFault,
+    };
 
     /// No tables, and an empty journal of at most `limit` entries.
     pub(crate) fn new(alloc: Global, limit: u32) -> Server
@@ -64,6 +72,8 @@ impl Server {
         ensures regular { IsRegular self.now.entries }
         ensures few { length self.now.entries ≤ self.now.limit }
     {
+        // Once all fields were read, the proof knows what the type says of them: `regular`. The call says
+        // `few`.
         let _ = &self.stores;
         let _ = self.journal.entries();
         &self.journal
@@ -83,7 +93,8 @@ impl Server {
 
     /// Runs the statement of a session's line, from its first move to its reply.
     pub(crate) fn statement(&mut self, alloc: Global, by: By, body: &[u8]) -> Reply
-        ensures { Serves self.old self.new (record { line = by.line; session = by.session; body = body.now }) result }
+        ensures { Serves self.old self.new
+            (record { line = by.line; session = by.session; body = body.now }) result }
     {
         match self.reserve() {
             Ok(()) => self.first_move(alloc, by, body),
@@ -103,7 +114,8 @@ impl Server {
 
     fn first_move(&mut self, alloc: Global, by: By, body: &[u8]) -> Reply
         requires { 1 ≤ self.old.spare }
-        ensures { Serves self.old self.new (record { line = by.line; session = by.session; body = body.now }) result }
+        ensures { Serves self.old self.new
+            (record { line = by.line; session = by.session; body = body.now }) result }
     {
         match self.read(alloc, body) {
             Ok(bound) => self.run_bound(alloc, by, bound),
@@ -120,10 +132,10 @@ impl Server {
         ensures bound { IfOk result (BodyBinds (catalog self.now.entries) body.now) }
         ensures refused { IfErr result (IsReadFault (catalog self.now.entries) body.now) }
     {
-        match thin(alloc, body) {
-            Ok(statement) => bind(alloc, &statement, &self.tables),
-            Err(ThinFault::NotThin) => Err(BindFault::Refused(Refusal::NotBuilt)),
-            Err(ThinFault::NoMemory) => Err(BindFault::NoMemory),
+        let parsed = read_statement(alloc, body)?;
+        match parsed {
+            Parsed::Statement(statement) => bind(alloc, &statement, &self.tables),
+            Parsed::Refused(refusal) => Err(BindFault::Refused(refusal)),
         }
     }
 
@@ -160,11 +172,12 @@ impl Server {
         requires room { 1 ≤ self.old.spare }
         requires unknown { IsUnknown (catalog self.old.entries) table.name }
         requires few { length (catalog self.old.entries) < 64 }
-        ensures done { OnOk result (Adds self.old self.new (entry_of (said_by by) (What.Created table) ∷ [])) }
+        ensures done { OnOk result
+            (Adds self.old self.new (entry_of (said_by by) (What.Created table) ∷ [])) }
         ensures same { OnErr result (Adds self.old self.new []) }
     {
         let held = table.duplicate(alloc)?;
-        let kinds = kinds_of_columns(alloc, table.columns.as_slice())?;
+        let kinds = table.kinds(alloc)?;
         let rows = Rows::new(alloc, kinds.as_slice())?;
         self.stores.reserve(1)?;
         self.tables.add(held)?;
@@ -197,10 +210,13 @@ impl Server {
     fn commit(&mut self, by: By, table: u32, rows: Rows) -> Result<(), NoMemory>
         requires room { 1 ≤ self.old.spare }
         requires fits { BoundFits (catalog self.old.entries) (Bound.Insert table rows) }
-        ensures done { OnOk result ((block : _) × Adds self.old self.new (entry_of (said_by by) (What.Inserted table block rows) ∷ [])) }
+        ensures done { OnOk result
+            ((block : _)
+            × Adds self.old self.new (entry_of (said_by by) (What.Inserted table block rows) ∷ [])) }
         ensures same { OnErr result (Adds self.old self.new []) }
     {
         let place = table as usize;
+        // The call says that there are fewer than 2^32 entries, so that the next number fits its type.
         let _entries = self.journal.entries();
         let block = self.stores[place].next;
         append(&mut self.stores, place, &rows)?;
@@ -225,14 +241,4 @@ impl Server {
             Err(NoMemory) => Reply::Refused(Refusal::NoMemory),
         }
     }
-}
-
-fn kinds_of_columns(alloc: Global, columns: &[ColumnDef]) -> Result<Vec<Kind>, NoMemory>
-    ensures { IfOk result (λ kinds. kinds.items ≡ map (λ column. column.kind) columns.now) }
-{
-    let mut kinds = Vec::with_capacity(alloc, columns.len())?;
-    'columns: for column in columns {
-        kinds.push(column.kind)?;
-    }
-    Ok(kinds)
 }

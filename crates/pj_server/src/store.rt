@@ -1,5 +1,6 @@
 //! What the server holds of a table beside its definition.
-ghost use Rattle.std.specs.Prelude.{◌≡◌, ◌<◌, ◌+◌, ◌++◌, ◌^◌, length, slice_index_or, slice_set, vec_len, OnOk, OnErr};
+ghost use Rattle.std.specs.Prelude.{◌≡◌, ◌<◌, ◌+◌, ◌++◌, ◌^◌, length, slice_index_or};
+ghost use Rattle.std.specs.Prelude.{slice_set, vec_len, OnOk, OnErr};
 ghost use Rattle.pj_server.specs.Store.{with_rows};
 
 use pj_value::{NoMemory, Rows};
@@ -11,12 +12,16 @@ pub(crate) struct Store {
     pub(crate) next: u64,
 }
 
-/// Puts rows behind those of a store, whose next number then is one more. Takes time linear in these rows alone.
+/// Puts rows behind those of a store, whose next number then is one more. Takes time linear in these rows
+/// alone.
 pub(crate) fn append(stores: &mut Vec<Store>, table: usize, rows: &Rows) -> Result<(), NoMemory>
     requires there { table < vec_len stores.old }
     requires kinds { (d : _) → rows.now.kinds ≡ (slice_index_or stores.old.items table d).rows.kinds }
     requires number { (d : _) → (slice_index_or stores.old.items table d).next + 1 < 2 ^ 64 }
-    ensures done { OnOk result ((d : _) → stores.new.items ≡ slice_set stores.old.items table (with_rows rows.now (slice_index_or stores.old.items table d))) }
+    ensures done { OnOk result
+        ((d : _)
+        → stores.new.items
+        ≡ slice_set stores.old.items table (with_rows rows.now (slice_index_or stores.old.items table d))) }
     ensures same { OnErr result (stores.new.items ≡ stores.old.items) }
 {
     let store = &mut stores[table];

@@ -48,7 +48,8 @@ example script:
   a: SELECT count() FROM t
 ";
 
-/// What the words ask the program to say of itself, instead of running a script: exactly the one word `--help` or
+/// What the words ask the program to say of itself, instead of running a script: exactly the one word
+/// `--help` or
 /// `--version` behind the program's name. None where they ask neither.
 pub fn asked_about(words: &[String]) -> Option<About>
     ensures { result ≡ about_of (map string_bytes words.now) }

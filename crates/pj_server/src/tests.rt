@@ -1,4 +1,5 @@
-//! Runs of whole scripts over sources and sinks in memory: the worked examples, small journals, and failing calls.
+//! Runs of whole scripts over sources and sinks in memory: the worked examples, small journals, and failing
+//! calls.
 ghost use Rattle.std.specs.Prelude.{◌≤◌};
 
 use super::*;
@@ -93,7 +94,8 @@ fn three_rows_are_counted_in_pieces_of_any_size(rt: HostRuntime) -> Result<(), F
 
 #[test]
 fn each_failing_call_ends_the_run_with_its_status(rt: HostRuntime) -> Result<(), Fail> {
-    // 123 bytes in pieces of 7 are 18 calls, and one more finds the end; 27 bytes in pieces of 7, line by line, are 5 calls.
+    // 123 bytes in pieces of 7 are 18 calls, and one more finds the end; 27 bytes in pieces of 7, line by
+    // line, are 5 calls.
     for call in 1u64..=20 {
         let read = played(rt.alloc(), &[], COUNT, 7, call, 0)?;
         assert!(rt; (read.status == 4) == (call <= 19), "source, call {call}");
@@ -141,11 +143,23 @@ a: SELECT x FROM t
 a: SELECT count() FROM t
 a: CREATE TABLE t (y UInt64) ENGINE = MergeTree ORDER BY y
 a: SELECT count() FROM u
+a: SELECT x FROM u
+a: SELECT count( FROM t
+a: SELECT \"x\" FROM t
 ";
-    let replies =
-        b"1 a ok\n2 a NOT_BUILT\n3 a NOT_BUILT\n4 a rows 1\n0\n5 a TABLE_ALREADY_EXISTS t\n6 a UNKNOWN_TABLE u\n";
+    let replies = b"1 a ok
+2 a NOT_BUILT
+3 a NOT_BUILT
+4 a rows 1
+0
+5 a TABLE_ALREADY_EXISTS t
+6 a UNKNOWN_TABLE u
+7 a NOT_BUILT
+8 a SYNTAX_ERROR 14
+9 a SYNTAX_ERROR 7
+";
     let refused = played(rt.alloc(), &[], script, 4096, 0, 0)?;
-    assert!(rt; refused.status == 0 && refused.entries == 6);
+    assert!(rt; refused.status == 0 && refused.entries == 9);
     assert!(rt; refused.written.as_slice() == replies.as_slice());
     Ok(())
 }

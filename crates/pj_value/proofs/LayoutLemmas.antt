@@ -3,8 +3,8 @@ use Rattle.std.proofs.Common.{◌≡◌, ℕ, zero, suc, ◌+◌, ◌<◌, List,
 use Rattle.std.proofs.lemmas.List.{length-map}
 use Rattle.pj_value.specs.declared.value.Value.{Value}
 use Rattle.pj_value.specs.Values.{kind_of}
-use Rattle.pj_value.specs.Columns.{KindedValues}
-use Rattle.pj_value.specs.Layout.{kinds_of, joined}
+use Rattle.pj_value.specs.Columns.{KindedValues, kinds_of}
+use Rattle.pj_value.specs.Layout.{joined}
 
 -- ---- columns that are joined with values
 

@@ -8,8 +8,8 @@ use Rattle.pj_value.specs.declared.value.Value.{Value}
 use Rattle.pj_value.specs.declared.value.Value.TheVariants as values
 use Rattle.pj_value.specs.Values.{kind_of}
 use Rattle.pj_value.specs.Rows.{HaveKinds, value_at}
-use Rattle.pj_value.specs.Columns.{KindedValues, AreOfKind, no_values}
-use Rattle.pj_value.specs.Layout.{AreColumnsOf, kinds_of, values_of, row_at, rows_of, joined, truncated, columns_of_row}
+use Rattle.pj_value.specs.Columns.{KindedValues, AreOfKind, no_values, kinds_of, values_of, row_at, rows_of}
+use Rattle.pj_value.specs.Layout.{AreColumnsOf, joined, truncated, columns_of_row}
 
 -- the value that is read where there is none
 abbrev none : Value
@@ -54,7 +54,9 @@ pub AreColumnsOf-none : (ks : List Kind) → AreColumnsOf 0 ks (map no_values ks
 AreColumnsOf-none [] = tt
 AreColumnsOf-none (k ∷ ks) = (record { kind_is = refl; len_is = refl; of_kind = tt }, AreColumnsOf-none ks)
 
-kind_of-in : (k : Kind) (vs : List Value) (i : ℕ) → AreOfKind k vs → i < length vs → kind_of (get_or vs i none) ≡ k
+-- a value that a column holds is of its kind
+pub kind_of-in : (k : Kind) (vs : List Value) (i : ℕ) → AreOfKind k vs → i < length vs
+    → kind_of (get_or vs i none) ≡ k
 kind_of-in k [] i a l = absurd (omega arith)
 kind_of-in k (v ∷ vs) zero a l = a.0
 kind_of-in k (v ∷ vs) (suc i) a l = kind_of-in k vs i a.1 (omega arith)

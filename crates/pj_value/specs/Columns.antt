@@ -1,8 +1,9 @@
 -- A column: values of one kind (docs/MODEL.md, "Values").
-use Rattle.std.specs.Prelude.{◌≡◌, List, []}
-use Rattle.std.specs.List.{AllByRecursion}
+use Rattle.std.specs.Prelude.{◌≡◌, ℕ, List, [], map, slice_index_or}
+use Rattle.std.specs.List.{AllByRecursion, range_with_len}
 use Rattle.pj_value.specs.declared.value.Kind.{Kind}
 use Rattle.pj_value.specs.declared.value.Value.{Value}
+use Rattle.pj_value.specs.declared.value.Value.TheVariants as values
 use Rattle.pj_value.specs.Values.{kind_of}
 
 -- values, and the kind that they are of
@@ -17,3 +18,23 @@ no_values kind = record { kind = kind; values = [] }
 -- each of the values is of the kind
 abbrev pub AreOfKind : Kind → List Value → Type 0
 AreOfKind kind values = AllByRecursion (λ v. kind_of v ≡ kind) values
+
+-- the values at these places, in this order, and the number 0 where there is none
+abbrev pub values_at : List Value → List ℕ → List Value
+values_at vs places = map (λ at. slice_index_or vs at (values.Num 0)) places
+
+-- the kind of each column
+abbrev pub kinds_of : List KindedValues → List Kind
+kinds_of columns = map (λ c. c.kind) columns
+
+-- the values of each column
+abbrev pub values_of : List KindedValues → List (List Value)
+values_of columns = map (λ c. c.values) columns
+
+-- the row at a place, of the values of each column
+abbrev pub row_at : List (List Value) → ℕ → List Value
+row_at columns at = map (λ vs. slice_index_or vs at (values.Num 0)) columns
+
+-- the first rows, of the values of each column
+abbrev pub rows_of : List (List Value) → ℕ → List (List Value)
+rows_of columns len = map (row_at columns) (range_with_len 0 len)

@@ -1,13 +1,16 @@
 -- How a `Column` and `Rows` are laid out. No public contract cites this file.
-use Rattle.std.specs.Prelude.{◌≡◌, ℕ, List, [], ◌∷◌, ◌++◌, length, map, slice_index_or, take}
+use Rattle.std.specs.Prelude.{◌≡◌, ℕ, Bool, List, [], ◌∷◌, ◌++◌, length, map, take}
 use Rattle.std.specs.List.{AllZip, range_with_len}
+use Rattle.std.specs.Ordering.{is_lt}
+use Rattle.std.specs.declared.cmp.Ordering.{Ordering}
 use Rattle.pj_value.specs.declared.value.Kind.{Kind}
 use Rattle.pj_value.specs.declared.value.Kind.TheVariants as kinds
 use Rattle.pj_value.specs.declared.value.Value.{Value}
 use Rattle.pj_value.specs.declared.value.Value.TheVariants as values
 use Rattle.pj_value.specs.declared.column.Items.{Items}
 use Rattle.pj_value.specs.declared.column.Items.TheVariants as items
-use Rattle.pj_value.specs.Columns.{KindedValues, AreOfKind}
+use Rattle.pj_value.specs.Columns.{KindedValues, AreOfKind, values_at, values_of, row_at}
+use Rattle.pj_value.specs.Order.{key_cmp}
 
 -- the values of a column, and their kind
 abbrev pub kinded_values : Items → KindedValues
@@ -24,22 +27,6 @@ pub record IsColumnOf (len : ℕ) (kind : Kind) (column : KindedValues) : Type 0
 abbrev pub AreColumnsOf : ℕ → List Kind → List KindedValues → Type 0
 AreColumnsOf len kinds columns = AllZip (IsColumnOf len) kinds columns
 
--- the values of each column
-abbrev pub values_of : List KindedValues → List (List Value)
-values_of columns = map (λ c. c.values) columns
-
--- the row at a place, of the values of each column
-abbrev pub row_at : List (List Value) → ℕ → List Value
-row_at columns at = map (λ vs. slice_index_or vs at (values.Num 0)) columns
-
--- the first rows, of the values of each column
-abbrev pub rows_of : List (List Value) → ℕ → List (List Value)
-rows_of columns len = map (row_at columns) (range_with_len 0 len)
-
--- the kind of each column
-abbrev pub kinds_of : List KindedValues → List Kind
-kinds_of columns = map (λ c. c.kind) columns
-
 -- columns with further values behind those of the first of them
 abbrev pub joined : List KindedValues → List (List Value) → List KindedValues
 joined [] vss = []
@@ -49,6 +36,22 @@ joined (c ∷ cs) (vs ∷ vss) = record c { values = c.values ++ vs } ∷ joined
 -- a column with its first values alone
 abbrev pub truncated : ℕ → KindedValues → KindedValues
 truncated len column = record column { values = take len column.values }
+
+-- a column with its values at these places
+abbrev pub gathered : List ℕ → KindedValues → KindedValues
+gathered places column = record column { values = values_at column.values places }
+
+-- the places of so many rows
+abbrev pub places_of : ℕ → List ℕ
+places_of len = range_with_len 0 len
+
+-- how the rows at two places stand to each other by these columns
+abbrev pub places_cmp : List KindedValues → List ℕ → ℕ → ℕ → Ordering
+places_cmp columns keys a b = key_cmp keys (row_at (values_of columns) a) (row_at (values_of columns) b)
+
+-- whether the row at a place stands before that at another
+abbrev pub is_before : List KindedValues → List ℕ → ℕ → ℕ → Bool
+is_before columns keys a b = is_lt (places_cmp columns keys a b)
 
 -- the columns of a row alone
 abbrev pub columns_of_row : List Value → List (List Value)

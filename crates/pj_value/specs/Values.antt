@@ -1,4 +1,6 @@
 -- Values and their kinds (docs/MODEL.md, "Values").
+use Rattle.std.specs.Prelude.{◌<◌}
+use Rattle.std.specs.List.{AllByRecursion}
 use Rattle.pj_value.specs.declared.value.Kind.{Kind}
 use Rattle.pj_value.specs.declared.value.Kind.TheVariants as kinds
 use Rattle.pj_value.specs.declared.value.Value.{Value}
@@ -15,3 +17,8 @@ kind_of (values.Text t) = kinds.Text
 abbrev pub value_of : Cell → Value
 value_of (cells.Num n) = values.Num n
 value_of (cells.Text t) = values.Text t.now
+
+-- a value that code can hold: a number of 64 bits, or a text of bytes
+abbrev pub Fits : Value → Type 0
+Fits (values.Num n) = n < 18446744073709551616
+Fits (values.Text t) = AllByRecursion (λ b. b < 256) t

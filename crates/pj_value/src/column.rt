@@ -1,7 +1,9 @@
 //! A column: values of one kind. Numbers and texts lie in vectors of their own, so that a number takes eight bytes.
-ghost use Rattle.std.specs.Prelude.{◌≡◌, ◌<◌, ◌++◌, ◌∷◌, [], ◌↔◌, IfOk, OnOk, OnErr, length, take, slice_index_or};
+ghost use Rattle.std.specs.Prelude.{◌≡◌, ◌<◌, ◌++◌, ◌∷◌, [], ◌↔◌, length, map, take, slice_index_or};
+ghost use Rattle.std.specs.Prelude.{IfOk, OnOk, OnErr};
 ghost use Rattle.pj_value.specs.Values.{kind_of, value_of};
-ghost use Rattle.pj_value.specs.Columns.{no_values, AreOfKind};
+ghost use Rattle.std.specs.List.{All};
+ghost use Rattle.pj_value.specs.Columns.{no_values, values_at, AreOfKind};
 ghost use Rattle.pj_value.specs.declared.value.Value.TheVariants as values;
 
 use crate::memory::{NoMemory, PushFault};
@@ -92,8 +94,36 @@ impl Column {
         }
     }
 
+    /// The value at this place, lent, and the number 0 where there is none.
+    pub(crate) fn cell_or_zero(&self, at: usize) -> Cell<'_>
+        ensures { value_of result ≡ slice_index_or self.now.values at (values.Num 0) }
+    {
+        match &self.items {
+            Items::Num(numbers) => match numbers.get(at) {
+                Some(number) => Cell::Num(*number),
+                None => Cell::Num(0),
+            },
+            Items::Text(texts) => match texts.get(at) {
+                Some(text) => Cell::Text(text),
+                None => Cell::Num(0),
+            },
+        }
+    }
+
+    /// The values at these places, in this order, in memory of their own.
+    pub fn gather(&self, alloc: Global, places: &[usize]) -> Result<Column, NoMemory>
+        requires { All (λ at. at < length self.now.values) places.now }
+        ensures { IfOk result (λ c. c ≡ record self.now { values = values_at self.now.values places.now }) }
+    {
+        let items = match &self.items {
+            Items::Num(numbers) => Items::Num(numbers_at(numbers.as_slice(), places, alloc)?),
+            Items::Text(texts) => Items::Text(texts_at(texts.as_slice(), places, alloc)?),
+        };
+        Ok(Column { items })
+    }
+
     /// The same values of the same kind, in memory of their own.
-    pub(crate) fn duplicate(&self, alloc: Global) -> Result<Column, NoMemory>
+    pub fn duplicate(&self, alloc: Global) -> Result<Column, NoMemory>
         ensures { IfOk result (λ c. c ≡ self.now) }
     {
         let items = match &self.items {
@@ -153,4 +183,28 @@ fn push_copies(texts: &mut Vec<Text>, more: &[Text], alloc: Global) -> Result<()
         texts.push(text.duplicate(alloc)?)?;
     }
     Ok(())
+}
+
+/// The numbers at these places, in this order.
+fn numbers_at(numbers: &[u64], places: &[usize], alloc: Global) -> Result<Vec<u64>, NoMemory>
+    requires { All (λ at. at < length numbers.now) places.now }
+    ensures { IfOk result (λ ns. ns.items ≡ map (λ at. slice_index_or numbers.now at 0) places.now) }
+{
+    let mut found = Vec::with_capacity(alloc, places.len())?;
+    for at in places {
+        found.push(numbers[*at])?;
+    }
+    Ok(found)
+}
+
+/// Copies of the texts at these places, in this order.
+fn texts_at(texts: &[Text], places: &[usize], alloc: Global) -> Result<Vec<Text>, NoMemory>
+    requires { All (λ at. at < length texts.now) places.now }
+    ensures { IfOk result (λ ts. ts.items ≡ map (λ at. slice_index_or texts.now at []) places.now) }
+{
+    let mut found = Vec::with_capacity(alloc, places.len())?;
+    for at in places {
+        found.push(texts[*at].duplicate(alloc)?)?;
+    }
+    Ok(found)
 }

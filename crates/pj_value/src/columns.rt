@@ -1,8 +1,9 @@
 //! What is done to all columns of some rows at once.
-ghost use Rattle.std.specs.Prelude.{◌≡◌, ◌≢◌, ℕ, ◌↔◌, IfOk, IsTrue, OnOk, OnErr, map, take};
+ghost use Rattle.std.specs.Prelude.{◌≡◌, ◌≢◌, ◌<◌, ℕ, ◌↔◌, IfOk, IsTrue, OnOk, OnErr, length, map, take};
+ghost use Rattle.std.specs.List.{All};
 ghost use Rattle.pj_value.specs.Values.{kind_of};
-ghost use Rattle.pj_value.specs.Columns.{no_values};
-ghost use Rattle.pj_value.specs.Layout.{kinds_of, values_of, joined, truncated, columns_of_row};
+ghost use Rattle.pj_value.specs.Columns.{no_values, AreOfKind, kinds_of, values_of};
+ghost use Rattle.pj_value.specs.Layout.{gathered, joined, truncated, columns_of_row};
 
 use crate::column::Column;
 use crate::memory::{NoMemory, PushFault};
@@ -29,6 +30,34 @@ pub(crate) fn duplicate_columns(alloc: Global, columns: &[Column]) -> Result<Vec
         copies.push(column.duplicate(alloc)?)?;
     }
     Ok(copies)
+}
+
+/// The values at these places of each column, in memory of their own.
+pub(crate) fn gather_columns(
+    alloc: Global,
+    columns: &[Column],
+    places: &[usize],
+) -> Result<Vec<Column>, NoMemory>
+    requires { All (λ c. All (λ at. at < length c.values) places.now) columns.now }
+    ensures { IfOk result (λ cs. cs.items ≡ map (gathered places.now) columns.now) }
+{
+    let mut found = Vec::with_capacity(alloc, columns.len())?;
+    for column in columns {
+        found.push(column.gather(alloc, places)?)?;
+    }
+    Ok(found)
+}
+
+/// The kind of each column.
+pub(crate) fn column_kinds(alloc: Global, columns: &[Column]) -> Result<Vec<Kind>, NoMemory>
+    ensures kinds { IfOk result (λ ks. ks.items ≡ kinds_of columns.now) }
+    ensures of_kind { OnOk result (All (λ c. AreOfKind c.kind c.values) columns.now) }
+{
+    let mut kinds = Vec::with_capacity(alloc, columns.len())?;
+    for column in columns {
+        kinds.push(column.kind())?;
+    }
+    Ok(kinds)
 }
 
 /// Whether the row has one value of each kind.

@@ -7,16 +7,17 @@ mod escaping;
 mod list;
 mod memory;
 mod rows;
+mod sorting;
 mod text;
 mod value;
 
 pub use column::Column;
-pub use escaping::escape;
+pub use escaping::{escape, text_or_bad_escape, unescape, unescape_undoes_escape};
 pub use list::List;
-pub use memory::{NoMemory, PushFault};
+pub use memory::{NoMemory, PushFault, UnescapeFault};
 pub use rows::Rows;
 pub use text::Text;
-pub use value::{AggKind, Cell, Kind, Value};
+pub use value::{AggKind, Cell, Kind, Value, cell_cmp};
 
 #[cfg(test)]
 mod tests;

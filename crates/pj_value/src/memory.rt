@@ -1,6 +1,7 @@
 //! The refusals of this crate. Want of memory has a type of its own, since every crate answers it.
 ghost use Rattle.std.specs.Prelude.{◌≡◌};
 ghost use Rattle.pj_value.specs.declared.memory.PushFault.TheVariants as push_faults;
+ghost use Rattle.pj_value.specs.declared.memory.UnescapeFault.TheVariants as unescape_faults;
 
 use std::alloc::{AllocError, AllocFailed};
 use thiserror::Error;
@@ -54,5 +55,24 @@ impl<T: Drop> From<AllocFailed<T>> for PushFault {
 
     fn from(_e: AllocFailed<T>) -> PushFault {
         PushFault::NoMemory
+    }
+}
+
+/// Why bytes were not read as a text.
+#[derive(Clone, Copy, Debug, PartialEq, Eq, Error)]
+pub enum UnescapeFault {
+    /// At this place, counted from 0, is a backslash with no letter behind it that may be there.
+    #[error("bad escape at byte {at}")]
+    BadEscape { at: usize },
+    /// There was no memory for the text. The bytes may spell one or not.
+    #[error("no memory")]
+    NoMemory,
+}
+
+impl<T: Drop> From<AllocFailed<T>> for UnescapeFault {
+    ghost from_gives = { λ _ e. e ≡ unescape_faults.NoMemory };
+
+    fn from(_e: AllocFailed<T>) -> UnescapeFault {
+        UnescapeFault::NoMemory
     }
 }

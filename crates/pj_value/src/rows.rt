@@ -1,13 +1,18 @@
 //! Rows of values, kept by columns: a row takes no memory of its own, and what needs one column alone reads no other.
-ghost use Rattle.std.specs.Prelude.{◌≡◌, ◌<◌, ◌++◌, ◌∷◌, [], ◌↔◌, IfOk, OnOk, OnErr, IsTrue, length, map};
+ghost use Rattle.std.specs.Prelude.{◌≡◌, ◌<◌, ◌++◌, ◌∷◌, [], ◌↔◌, length, map, take};
+ghost use Rattle.std.specs.Prelude.{IfOk, OnOk, OnErr, IsTrue};
+ghost use Rattle.std.specs.List.{All};
 ghost use Rattle.pj_value.specs.Values.{kind_of, value_of};
-ghost use Rattle.pj_value.specs.Rows.{no_rows, value_at, HaveKinds};
+ghost use Rattle.pj_value.specs.Rows.{no_rows, value_at, rows_at, column_of, rows_in, rows_joined, HaveKinds};
+ghost use Rattle.pj_value.specs.Order.{IsSortedBy};
 
 use crate::column::Column;
 use crate::columns::{
-    append_columns, duplicate_columns, empty_columns, fits, push_row, truncate_columns,
+    append_columns, column_kinds, duplicate_columns, empty_columns, fits, gather_columns, push_row,
+    truncate_columns,
 };
 use crate::memory::{NoMemory, PushFault};
+use crate::sorting::sorted_places;
 use crate::value::{Cell, Kind, Value};
 use std::alloc::Global;
 use std::marker::Model;
@@ -28,7 +33,8 @@ impl Model for Rows {
 
     ghost Value = { KindedRows };
 
-    ghost use Rattle.pj_value.specs.Layout.{AreColumnsOf, rows_of, values_of};
+    ghost use Rattle.pj_value.specs.Columns.{rows_of, values_of};
+    ghost use Rattle.pj_value.specs.Layout.{AreColumnsOf};
 
     ghost view = { λ r. record { kinds = r.kinds.items; rows = rows_of (values_of r.columns.items) r.len } };
 
@@ -46,6 +52,22 @@ impl Rows {
             kinds,
             columns,
             len: 0,
+            alloc,
+        })
+    }
+
+    /// The rows whose values in each column are those of one of these columns, which are moved.
+    pub fn from_columns(alloc: Global, columns: Vec<Column>) -> Result<Rows, NoMemory>
+        requires some { 0 < length columns.items }
+        requires lengths { All (λ c. length c.values ≡ rows_in columns.items) columns.items }
+        ensures { IfOk result (λ r. r ≡ rows_joined columns.items) }
+    {
+        let kinds = column_kinds(alloc, columns.as_slice())?;
+        let len = columns[0].len();
+        Ok(Rows {
+            kinds,
+            columns,
+            len,
             alloc,
         })
     }
@@ -106,6 +128,53 @@ impl Rows {
         ensures { value_of result ≡ value_at self.now.rows row column }
     {
         self.columns[column].cell(row)
+    }
+
+    /// A column, lent, whose values are those of the rows in it.
+    pub fn column(&self, at: usize) -> &Column
+        requires { at < length self.now.kinds }
+        ensures { result.now ≡ column_of self.now at }
+    {
+        &self.columns[at]
+    }
+
+    /// The rows at these places, in this order, in memory of their own.
+    pub fn gather(&self, places: &[usize]) -> Result<Rows, NoMemory>
+        requires { All (λ at. at < length self.now.rows) places.now }
+        ensures { IfOk result (λ r. r ≡ record self.now { rows = rows_at self.now.rows places.now }) }
+    {
+        Ok(Rows {
+            kinds: Vec::from_slice(self.alloc, self.kinds.as_slice())?,
+            columns: gather_columns(self.alloc, self.columns.as_slice(), places)?,
+            len: places.len(),
+            alloc: self.alloc,
+        })
+    }
+
+    /// Sorts the rows by their values in these columns, the first of them first.
+    ///
+    /// Rows that are equal in all of them keep their order. In a column that isn't there all rows are equal.
+    ///
+    /// With n rows it takes n times the logarithm of n comparisons, and copies each column once.
+    pub fn sort_by(&mut self, keys: &[usize]) -> Result<(), NoMemory>
+        ensures sorted { OnOk result (IsSortedBy keys.now self.old.rows self.new.rows) }
+        ensures kinds { self.new.kinds ≡ self.old.kinds }
+        ensures same { OnErr result (self.new ≡ self.old) }
+    {
+        let places = sorted_places(self.alloc, self.columns.as_slice(), keys, self.len)?;
+        let columns = gather_columns(self.alloc, self.columns.as_slice(), places.as_slice())?;
+        self.columns = columns;
+        Ok(())
+    }
+
+    /// Drops the rows from this place on.
+    pub fn truncate(&mut self, len: usize)
+        ensures { self.new ≡ record self.old { rows = take len self.old.rows } }
+    {
+        if len < self.len {
+            truncate_columns(&mut self.columns, len);
+            self.len = len;
+        }
     }
 
     /// Adds copies of other rows of these kinds behind the rows, in time linear in the rows that are added.

@@ -1,10 +1,12 @@
 //! A value of a table, its kind, and a value that is lent.
 ghost use Rattle.std.specs.Prelude.{◌≡◌, IfOk};
 ghost use Rattle.pj_value.specs.Values.{kind_of, value_of};
+ghost use Rattle.pj_value.specs.Order.{value_cmp};
 
 use crate::memory::NoMemory;
 use crate::text::Text;
 use std::alloc::Global;
+use std::cmp::Ordering;
 
 /// The kind of a column.
 #[derive(Clone, Copy, Debug, PartialEq, Eq)]
@@ -38,6 +40,14 @@ pub enum Cell<'a> {
 pub enum AggKind {
     /// `count()`: the number of rows, modulo 2^64.
     Count,
+    /// `sum(v)`: the total, modulo 2^64.
+    Sum,
+    /// `min(v)`: the least value.
+    Min,
+    /// `max(v)`: the greatest value.
+    Max,
+    /// `uniqExact(v)`: the number of distinct values.
+    UniqExact,
 }
 
 impl Value {
@@ -71,5 +81,17 @@ impl<'a> Cell<'a> {
             Cell::Num(number) => Ok(Value::Num(number)),
             Cell::Text(text) => Ok(Value::Text(text.duplicate(alloc)?)),
         }
+    }
+}
+
+/// How two values that are lent stand to each other. It takes no memory.
+pub fn cell_cmp(a: Cell<'_>, b: Cell<'_>) -> Ordering
+    ensures { result ≡ value_cmp (value_of a.entry) (value_of b.entry) }
+{
+    match (a, b) {
+        (Cell::Num(m), Cell::Num(n)) => m.cmp(&n),
+        (Cell::Num(_), Cell::Text(_)) => Ordering::Less,
+        (Cell::Text(_), Cell::Num(_)) => Ordering::Greater,
+        (Cell::Text(s), Cell::Text(t)) => s.as_slice().cmp(t.as_slice()),
     }
 }

@@ -5,7 +5,8 @@ use Rattle.pj_io.proofs.transfer.write_all.Given as goal
 
 abbrev pub invariant-pieces : goal.invariant-pieces
 invariant-pieces g l = record {
-  appended : (done : List ℕ) × (l.bytes ≡ done ++ l.rest) × Appends (g.W.Sink.taken l.initial.sink) (g.W.Sink.taken l.sink) done;
+  appended : (done : List ℕ) × (l.bytes ≡ done ++ l.rest)
+      × Appends (g.W.Sink.taken l.initial.sink) (g.W.Sink.taken l.sink) done;
   later : g.W.Sink.faults l.initial.sink ≤ g.W.Sink.faults l.sink;
 }
 

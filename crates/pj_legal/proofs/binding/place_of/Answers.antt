@@ -11,7 +11,9 @@ returns-then-eq c =
     rw (← c.as_slice.ensures, ← c.as_slice-in-tables.ensures) (Decides-names c.eq.result _ _ c.eq.ensures) in (
       c.index-tables-place.result,
       (
-        slice_get_read c.args.tables.now (length c.args.tables.now) c.tables.place c.index-tables-place.result refl (omega arith) c.index-tables-place.is,
+        slice_get_read c.args.tables.now
+            (length c.args.tables.now) c.tables.place c.index-tables-place.result refl
+            (omega arith) c.index-tables-place.is,
         same.0 c.if-eq.true,
       ),
     )
@@ -20,7 +22,8 @@ pub tables-preserved : goal.tables-preserved
 tables-preserved c =
     let same : Decides c.eq.result (c.index-tables-place.result.name ≡ c.args.name.now) =
     rw (← c.as_slice.ensures, ← c.as_slice-in-tables.ensures) (Decides-names c.eq.result _ _ c.eq.ensures) in
-    IsUnknown-more c.args.tables.now c.args.name.now c.tables.place c.index-tables-place.result (omega arith) c.index-tables-place.is
+    IsUnknown-more c.args.tables.now c.args.name.now c.tables.place c.index-tables-place.result
+    (omega arith) c.index-tables-place.is
     (λ named. false≢true (sym c.if-eq.false ∙ same.1 named)) c.tables.invariant
 
 pub returns : goal.returns

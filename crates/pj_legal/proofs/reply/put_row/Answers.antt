@@ -8,8 +8,11 @@ pub columns-preserved : goal.columns-preserved
 columns-preserved c =
     let rows = c.args.rows.now in
     let row = get_or rows.rows c.args.row [] in
-    let wide : length row ≡ length rows.kinds = length-row rows.kinds rows.rows c.args.row c.kinds-columns.ensures.shape c.requires in
+    let wide : length row ≡ length rows.kinds =
+    length-row rows.kinds rows.rows c.args.row c.kinds-columns.ensures.shape c.requires in
     let within : c.columns.column < length row = omega (arith, ap length c.kinds-columns.ensures.kinds) in
-    row_text-put c.args.out.now.items c.columns.out.items c.push.new.self.items _ row c.columns.column (omega arith) within
+    row_text-put c.args.out.now.items c.columns.out.items c.push.new.self.items _ row c.columns.column
+    (omega arith) within
     c.columns.invariant c.in_ok-push.ensures.items
-    (c.in_ok-put_cell-2.ensures ∙ ap (λ (v : Value). c.push.new.self.items ++ value_text v) c.cell-in-columns.ensures)
+    (c.in_ok-put_cell-2.ensures
+    ∙ ap (λ (v : Value). c.push.new.self.items ++ value_text v) c.cell-in-columns.ensures)

@@ -8,7 +8,8 @@ abbrev pub invariant-pieces : goal.invariant-pieces
 invariant-pieces l = record {
   room : l.number + length l.rest ≤ length l.bytes;
   few : vec_len l.names ≤ names_limit l.mode;
-  read : with_front l.lines.items (lines_at l.mode (l.number + 1) l.names.items (pieces l.rest)) ≡ lines_at l.mode 1 [] (pieces l.bytes);
+  read : with_front l.lines.items (lines_at l.mode (l.number + 1) l.names.items (pieces l.rest))
+      ≡ lines_at l.mode 1 [] (pieces l.bytes);
 }
 
 abbrev pub decreases-pieces : goal.decreases-pieces

@@ -5,5 +5,6 @@ use Rattle.pj_server.proofs.lines.run_lines.Given as goal
 
 abbrev pub invariant-lines : goal.invariant-lines
 invariant-lines g l =
-    RunsLines Finished l.line-index l.initial.server l.server l.names l.lines (g.W.Sink.taken l.initial.sink) (g.W.Sink.taken l.sink)
+    RunsLines Finished l.line-index l.initial.server l.server l.names l.lines (g.W.Sink.taken l.initial.sink)
+    (g.W.Sink.taken l.sink)
     × (g.W.Sink.faults l.initial.sink ≤ g.W.Sink.faults l.sink)

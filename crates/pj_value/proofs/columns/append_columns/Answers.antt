@@ -1,6 +1,6 @@
 use Rattle.std.proofs.Common.{◌<◌, length, take, arith, ap, sym, ◌∙◌}
 use Rattle.std.proofs.lemmas.List.{get_or-map, length-map}
-use Rattle.pj_value.specs.Layout.{kinds_of, values_of}
+use Rattle.pj_value.specs.Columns.{kinds_of, values_of}
 use Rattle.pj_value.proofs.LayoutLemmas.{joined-none, kinds_of-joined, length-same_kinds, kind_at, joined-take_more}
 use Rattle.pj_value.proofs.columns.append_columns.Goals as goal
 

@@ -2,7 +2,8 @@ use Rattle.std.proofs.Common.{◌<◌, ◌∷◌, [], length, take, arith, ap, s
 use Rattle.std.proofs.lemmas.List.{get_or-map, length-map}
 use Rattle.std.proofs.lemmas.Result.{err_from_is_err_and}
 use Rattle.pj_value.specs.Values.{kind_of}
-use Rattle.pj_value.specs.Layout.{kinds_of, columns_of_row}
+use Rattle.pj_value.specs.Columns.{kinds_of}
+use Rattle.pj_value.specs.Layout.{columns_of_row}
 use Rattle.pj_value.proofs.LayoutLemmas.{joined-none, kinds_of-joined, length-joined, length-row, kind_of_row_at, joined-take_more}
 use Rattle.pj_value.proofs.columns.push_row.Goals as goal
 

@@ -1,7 +1,7 @@
 use Rattle.std.proofs.Common.{◌<◌, length, arith, ap, sym, ◌∙◌}
 use Rattle.std.proofs.lemmas.Slice.Zip.{AllZip-long}
 use Rattle.pj_value.specs.Rows.{KindedRows, value_at}
-use Rattle.pj_value.specs.Layout.{values_of}
+use Rattle.pj_value.specs.Columns.{values_of}
 use Rattle.pj_value.proofs.RowsLemmas.{length-rows_of, len_at, value_at-rows_of}
 use Rattle.pj_value.proofs.rows.Rows.cell.Goals as goal
 

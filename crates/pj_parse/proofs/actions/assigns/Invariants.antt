@@ -1,0 +1,10 @@
+use Rattle.std.proofs.Common.{◌≡◌, ◌-◌}
+use Rattle.pj_parse.specs.ParsingValues.{value_at}
+use Rattle.pj_parse.specs.ParsingStatements.{assign_at, assigns_at}
+use Rattle.pj_parse.proofs.ManyLoop.{list_going}
+use Rattle.pj_parse.proofs.actions.assigns.Given as goal
+
+abbrev pub invariant-assigns : goal.invariant-assigns
+invariant-assigns l =
+    list_going (assign_at (value_at l.most)) l.assigns.items (l._i-end - l._i) l.rest
+    ≡ assigns_at (value_at l.most) l.fn.rest

@@ -1,0 +1,106 @@
+-- How words, signs, numbers, texts and lists are read. No public contract cites this file.
+use Rattle.std.specs.Prelude.{ℕ, Bool, true, ◌&&◌, List, ◌∷◌, nat_le}
+use Rattle.pj_lex.specs.declared.token.Symbol.{Symbol}
+use Rattle.pj_lex.specs.declared.token.Symbol.TheVariants.{Left, Right, Comma}
+use Rattle.pj_parse.specs.Lexemes.{Lexeme, no_value, bytes_of, number_of, same, is_word, is_number}
+use Rattle.pj_parse.specs.Lexemes.{is_text, is_symbol, spells, may_name, names_function}
+use Rattle.pj_parse.specs.GrammarWords.{is_not_if, may_name_list}
+use Rattle.pj_parse.specs.Parsing.{Parser, ◌>>=◌, one_at, nothing_at, many_at}
+
+-- the keyword of these capitals, the word exactly
+abbrev pub is_keyword : List ℕ → Lexeme → Bool
+is_keyword capitals = is_word (spells capitals)
+
+abbrev pub is_exactly : List ℕ → Lexeme → Bool
+is_exactly bytes = is_word (λ word. same word bytes)
+
+-- a keyword
+abbrev pub keyword_at : List ℕ → Parser (Unit {0})
+keyword_at capitals = one_at (is_keyword capitals) no_value
+
+-- a word exactly
+abbrev pub exactly_at : List ℕ → Parser (Unit {0})
+exactly_at bytes = one_at (is_exactly bytes) no_value
+
+-- a symbol
+abbrev pub sign_at : Symbol → Parser (Unit {0})
+sign_at symbol = one_at (is_symbol symbol) no_value
+
+-- a word that passes the test
+abbrev pub word_that_at : (List ℕ → Bool) → Parser (List ℕ)
+word_that_at test = one_at (is_word test) bytes_of
+
+-- a name
+abbrev pub name_at : Parser (List ℕ)
+name_at = word_that_at may_name
+
+-- a name before a parenthesis
+abbrev pub list_name_at : Parser (List ℕ)
+list_name_at = word_that_at may_name_list
+
+-- the same where the keyword IF may stand
+abbrev pub name_but_if_at : Parser (List ℕ)
+name_but_if_at = word_that_at (λ bytes. may_name bytes && is_not_if bytes)
+
+abbrev pub list_name_but_if_at : Parser (List ℕ)
+list_name_but_if_at = word_that_at (λ bytes. may_name_list bytes && is_not_if bytes)
+
+-- a function's word
+abbrev pub function_name_at : Parser (List ℕ)
+function_name_at = word_that_at names_function
+
+-- a number that passes the test
+abbrev pub number_that_at : (ℕ → Bool) → Parser ℕ
+number_that_at test = one_at (is_number test) number_of
+
+-- any number
+abbrev pub is_any_number : Lexeme → Bool
+is_any_number = is_number (λ n. true)
+
+abbrev pub number_at : Parser ℕ
+number_at = number_that_at (λ n. true)
+
+-- a number of at least 1
+abbrev pub positive_at : Parser ℕ
+positive_at = number_that_at (λ n. nat_le 1 n)
+
+-- a text
+abbrev pub is_any_text : Lexeme → Bool
+is_any_text = is_text (λ bytes. true)
+
+abbrev pub text_at : Parser (List ℕ)
+text_at = one_at is_any_text bytes_of
+
+-- a text exactly
+abbrev pub is_text_exactly : List ℕ → Lexeme → Bool
+is_text_exactly bytes = is_text (λ text. same text bytes)
+
+abbrev pub text_exactly_at : List ℕ → Parser (Unit {0})
+text_exactly_at bytes = one_at (is_text_exactly bytes) no_value
+
+-- what the parser reads, as this value
+abbrev pub means_at : {A : Type 0} → Parser (Unit {0}) → A → Parser A
+means_at parser value = do
+  _ ← parser
+  nothing_at value
+
+-- a parser behind a first one
+abbrev pub behind_at : {A : Type 0} → Parser (Unit {0}) → Parser A → Parser A
+behind_at first parser = do
+  _ ← first
+  parser
+
+-- one or more, with commas between them
+abbrev pub listed_at : {A : Type 0} → Parser A → Parser (List A)
+listed_at parser = do
+  first ← parser
+  more ← many_at (is_symbol Comma) (behind_at (sign_at Comma) parser)
+  nothing_at (first ∷ more)
+
+-- in parentheses
+abbrev pub in_parens_at : {A : Type 0} → Parser A → Parser A
+in_parens_at parser = do
+  _ ← sign_at Left
+  value ← parser
+  _ ← sign_at Right
+  nothing_at value

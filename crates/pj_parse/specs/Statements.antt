@@ -1,0 +1,42 @@
+-- The statement of a body, and the place of a syntax error (docs/GRAMMAR.md, "Statements").
+use Rattle.std.specs.Prelude.{◌≡◌, ℕ, suc, ◌<◌, ◌≤◌, List, [], ◌∷◌, ◌++◌, length, take, drop, true, codes}
+use Rattle.pj_lex.specs.declared.token.Token.{Token}
+use Rattle.pj_parse.specs.declared.types.Statement.{Statement}
+use Rattle.pj_parse.specs.Lexemes.{Lexeme, word, lexemes, spells}
+use Rattle.pj_parse.specs.GrammarStatements.{Line}
+
+-- how many tokens a statement may have that doesn't begin with INSERT
+abbrev pub tokens_limit : ℕ
+tokens_limit = 1024
+
+-- the first word is INSERT, in any letter case
+abbrev pub BeginsInsert : List Lexeme → Type 0
+BeginsInsert ts =
+    (bytes : List ℕ) × (more : List Lexeme) × (ts ≡ word bytes ∷ more)
+    × (spells (codes "INSERT") bytes ≡ true)
+
+-- there are more tokens than a statement may have
+abbrev pub HasTooMany : List Lexeme → Type 0
+HasTooMany ts = (tokens_limit < length ts) × (BeginsInsert ts → ⊥)
+
+-- the lexemes begin a line of the grammar
+abbrev pub Begins : List Lexeme → Type 0
+Begins ts = (more : List Lexeme) × (statement : Statement) × Line (ts ++ more) statement
+
+-- so many lexemes begin a line, and with the next one they don't; where there is no next one, they are no
+-- line
+pub record IsPlace (ts : List Lexeme) (count : ℕ) : Type 0 where
+  pub within : count ≤ length ts
+  pub before : Begins (take count ts)
+  pub here : count < length ts → Begins (take (suc count) ts) → ⊥
+  pub no_line : (statement : Statement) → Line ts statement → ⊥
+
+-- where the first of these tokens stands, or the end of the body
+abbrev pub place_of : List ℕ → List Token → ℕ
+place_of body [] = length body
+place_of body (token ∷ tokens) = token.at
+
+-- the body's tokens are no line, and this is the place of the first that doesn't fit
+abbrev pub IsSyntaxError : List ℕ → List Token → ℕ → Type 0
+IsSyntaxError body tokens at =
+    (count : ℕ) × IsPlace (lexemes body tokens) count × (at ≡ place_of body (drop count tokens))

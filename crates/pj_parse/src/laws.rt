@@ -1,0 +1,12 @@
+//! Laws of the grammar. Each is a function that does nothing, and its clause is the law.
+ghost use Rattle.pj_parse.specs.StatementLaws.{OneStatement, OnePlace};
+
+/// Lexemes are the line of one statement at most.
+pub fn one_statement()
+    ensures { OneStatement }
+{}
+
+/// Lexemes have one place of an error at most.
+pub fn one_place()
+    ensures { OnePlace }
+{}
