@@ -2,6 +2,7 @@
 use Rattle.std.specs.Prelude.{◌≡◌, ℕ, List, [], map, slice_index_or}
 use Rattle.std.specs.List.{AllByRecursion, range_with_len}
 use Rattle.pj_value.specs.declared.value.Kind.{Kind}
+use Rattle.pj_value.specs.declared.value.Kind.TheVariants as kinds
 use Rattle.pj_value.specs.declared.value.Value.{Value}
 use Rattle.pj_value.specs.declared.value.Value.TheVariants as values
 use Rattle.pj_value.specs.Values.{kind_of}
@@ -14,6 +15,14 @@ pub record KindedValues : Type 0 where
 -- no values, of this kind
 abbrev pub no_values : Kind → KindedValues
 no_values kind = record { kind = kind; values = [] }
+
+-- a column of these numbers
+abbrev pub column_of_numbers : List ℕ → KindedValues
+column_of_numbers numbers = record { kind = kinds.Num; values = map (λ n. values.Num n) numbers }
+
+-- a column of these texts
+abbrev pub column_of_texts : List (List ℕ) → KindedValues
+column_of_texts texts = record { kind = kinds.Text; values = map (λ t. values.Text t) texts }
 
 -- each of the values is of the kind
 abbrev pub AreOfKind : Kind → List Value → Type 0

@@ -4,7 +4,8 @@ use Rattle.std.specs.Prelude.{drop, slice_index}
 use Rattle.std.specs.Prelude.{Option, Some, None}
 use Rattle.std.specs.List.{AllZip, concat, flat_map}
 
--- a backslash, a tab, a line feed, a carriage return and a zero byte are written with a backslash and a letter, other bytes stay
+-- a backslash, a tab, a line feed, a carriage return and a zero byte are written with a backslash
+-- and a letter, other bytes stay
 abbrev pub escaped_byte : ℕ → List ℕ
 escaped_byte b =
     if b == 92 then codes "\\\\"

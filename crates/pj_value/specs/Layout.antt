@@ -14,8 +14,10 @@ use Rattle.pj_value.specs.Order.{key_cmp}
 
 -- the values of a column, and their kind
 abbrev pub kinded_values : Items → KindedValues
-kinded_values (items.Num numbers) = record { kind = kinds.Num; values = map (λ n. values.Num n) numbers.items }
-kinded_values (items.Text texts) = record { kind = kinds.Text; values = map (λ t. values.Text t) texts.items }
+kinded_values (items.Num numbers) =
+    record { kind = kinds.Num; values = map (λ n. values.Num n) numbers.items }
+kinded_values (items.Text texts) =
+    record { kind = kinds.Text; values = map (λ t. values.Text t) texts.items }
 
 -- a column of this kind, with as many values as there are rows
 pub record IsColumnOf (len : ℕ) (kind : Kind) (column : KindedValues) : Type 0 where

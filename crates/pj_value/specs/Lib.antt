@@ -5,3 +5,4 @@ pub mod Order
 pub mod Escaping
 pub mod EscapingLaws
 pub mod Layout
+pub mod Aggregates

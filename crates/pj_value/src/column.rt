@@ -1,9 +1,10 @@
-//! A column: values of one kind. Numbers and texts lie in vectors of their own, so that a number takes eight bytes.
+//! A column: values of one kind. Numbers and texts lie in vectors of their own,
+//! so that a number takes eight bytes.
 ghost use Rattle.std.specs.Prelude.{◌≡◌, ◌<◌, ◌++◌, ◌∷◌, [], ◌↔◌, length, map, take, slice_index_or};
-ghost use Rattle.std.specs.Prelude.{IfOk, OnOk, OnErr};
+ghost use Rattle.std.specs.Prelude.{IfOk, MatchOption, OnOk, OnErr};
 ghost use Rattle.pj_value.specs.Values.{kind_of, value_of};
 ghost use Rattle.std.specs.List.{All};
-ghost use Rattle.pj_value.specs.Columns.{no_values, values_at, AreOfKind};
+ghost use Rattle.pj_value.specs.Columns.{no_values, column_of_numbers, column_of_texts, values_at, AreOfKind};
 ghost use Rattle.pj_value.specs.declared.value.Value.TheVariants as values;
 
 use crate::memory::{NoMemory, PushFault};
@@ -140,7 +141,8 @@ impl Column {
     /// Adds the values of another column of this kind behind the others, in time linear in these alone.
     pub(crate) fn append(&mut self, more: &Column, alloc: Global) -> Result<(), NoMemory>
         requires { more.now.kind ≡ self.old.kind }
-        ensures added { OnOk result (self.new ≡ record self.old { values = self.old.values ++ more.now.values }) }
+        ensures added { OnOk result
+            (self.new ≡ record self.old { values = self.old.values ++ more.now.values }) }
         ensures same { OnErr result (self.new ≡ self.old) }
     {
         match (&mut self.items, &more.items) {
@@ -157,6 +159,46 @@ impl Column {
         match &mut self.items {
             Items::Num(numbers) => numbers.truncate(len),
             Items::Text(texts) => texts.truncate(len),
+        }
+    }
+}
+
+impl Column {
+    /// A column of these numbers, which are moved. Takes no memory.
+    pub fn from_numbers(numbers: Vec<u64>) -> Column
+        ensures { result ≡ column_of_numbers numbers.items }
+    {
+        Column {
+            items: Items::Num(numbers),
+        }
+    }
+
+    /// A column of these texts, which are moved. Takes no memory.
+    pub fn from_texts(texts: Vec<Text>) -> Column
+        ensures { result ≡ column_of_texts texts.items }
+    {
+        Column {
+            items: Items::Text(texts),
+        }
+    }
+
+    /// The numbers, lent, where the values are numbers.
+    pub fn numbers(&self) -> Option<&[u64]>
+        ensures { MatchOption result (self.now.kind ≡ Kind.Text) (λ ns. self.now ≡ column_of_numbers ns.now) }
+    {
+        match &self.items {
+            Items::Num(numbers) => Some(numbers.as_slice()),
+            Items::Text(_) => None,
+        }
+    }
+
+    /// The texts, lent, where the values are texts.
+    pub fn texts(&self) -> Option<&[Text]>
+        ensures { MatchOption result (self.now.kind ≡ Kind.Num) (λ ts. self.now ≡ column_of_texts ts.now) }
+    {
+        match &self.items {
+            Items::Num(_) => None,
+            Items::Text(texts) => Some(texts.as_slice()),
         }
     }
 }

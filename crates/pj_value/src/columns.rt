@@ -83,7 +83,8 @@ pub(crate) fn push_row(
 ) -> Result<(), PushFault>
     requires { map kind_of row.now ≡ kinds_of columns.old.items }
     ensures added { OnOk result (columns.new.items ≡ joined columns.old.items (columns_of_row row.now)) }
-    ensures part { (i : ℕ) × (columns.new.items ≡ joined columns.old.items (take i (columns_of_row row.now))) }
+    ensures part { (i : ℕ)
+        × (columns.new.items ≡ joined columns.old.items (take i (columns_of_row row.now))) }
     ensures shape { result ≢ Err PushFault.WrongShape }
 {
     for (at, value) in row.iter().enumerate() {

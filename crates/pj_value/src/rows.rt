@@ -1,4 +1,5 @@
-//! Rows of values, kept by columns: a row takes no memory of its own, and what needs one column alone reads no other.
+//! Rows of values, kept by columns: a row takes no memory of its own,
+//! and what needs one column alone reads no other.
 ghost use Rattle.std.specs.Prelude.{◌≡◌, ◌<◌, ◌++◌, ◌∷◌, [], ◌↔◌, length, map, take};
 ghost use Rattle.std.specs.Prelude.{IfOk, OnOk, OnErr, IsTrue};
 ghost use Rattle.std.specs.List.{All};
@@ -94,9 +95,9 @@ impl Rows {
         self.kinds.as_slice()
     }
 
-    /// Adds a copy of the row behind the others, in amortised constant time for each value beside the copies of texts.
-    /// The shape is tested before any memory is taken. More rows than a word can count are want of memory: no memory
-    /// holds as many, unless they have no columns.
+    /// Adds a copy of the row behind the others, in amortised constant time for each value beside the copies
+    /// of texts. The shape is tested before any memory is taken. More rows than a word can count are want of
+    /// memory: no memory holds as many, unless they have no columns.
     pub fn push(&mut self, row: &[Value]) -> Result<(), PushFault>
         ensures added { OnOk result (self.new ≡ record self.old { rows = self.old.rows ++ row.now ∷ [] }) }
         ensures fits { OnOk result (map kind_of row.now ≡ self.old.kinds) }

@@ -9,5 +9,7 @@ returns-in_err-escape_byte-clause-err c =
     let p = err_from_is_err_and c.from_residual.result c.from_residual.ensures.1 in
     rw p.1 (
       length (escaped (take c.loop-byte.byte-index c.args.text.now)),
-      c.in_err-escape_byte.ensures.err ∙ c.loop-byte.invariant ∙ ap (λ ys. c.args.out.now.items ++ ys) (escaped-take c.args.text.now c.loop-byte.byte-index),
+      c.in_err-escape_byte.ensures.err
+          ∙ c.loop-byte.invariant
+          ∙ ap (λ ys. c.args.out.now.items ++ ys) (escaped-take c.args.text.now c.loop-byte.byte-index),
     )

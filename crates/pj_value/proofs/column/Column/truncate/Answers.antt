@@ -8,6 +8,8 @@ invariant_of-self c = AreOfKind-kinded _
 
 pub returns : goal.returns
 returns c = elim c.match-self.branch [
-  | in-Num w ↦ rw (w.self-inside-is, ← c.self.view_is, w.in-Num.is, w.truncate.ensures.items, take-map)
-  | in-Text w ↦ rw (w.self-inside-is, ← c.self.view_is, w.in-Text.is, w.truncate-in-Text.ensures.items, take-map)
+  | in-Num w ↦
+      rw (w.self-inside-is, ← c.self.view_is, w.in-Num.is, w.truncate.ensures.items, take-map)
+  | in-Text w ↦
+      rw (w.self-inside-is, ← c.self.view_is, w.in-Text.is, w.truncate-in-Text.ensures.items, take-map)
 ]

@@ -24,11 +24,7 @@ returns-else-len-self c =
     omega (
       arith,
       ap (λ (r : KindedRows). length r.rows) c.self.view_is,
-      length-rows_of
-          (values_of c.self.inside.columns.items) c.self.inside.len,
+      length-rows_of (values_of c.self.inside.columns.items) c.self.inside.len,
     ) in
-    ap (λ rows. record {
-      kinds =
-          c.args.self.now.kinds;
-      rows = rows;
-    }) (sym (take_all c.args.len c.args.self.now.rows all))
+    ap (λ rows. record { kinds = c.args.self.now.kinds; rows = rows })
+    (sym (take_all c.args.len c.args.self.now.rows all))
