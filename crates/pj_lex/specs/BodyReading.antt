@@ -7,8 +7,8 @@ use Rattle.pj_lex.specs.declared.cutting.LexFault.TheVariants as faults
 use Rattle.pj_lex.specs.Bytes.{IsBlank}
 use Rattle.pj_lex.specs.Tokens.{IsFirst, IsBad}
 
--- in these bytes, which begin at this place, no token stands behind the blanks in front; and the place of
--- that
+-- in these bytes, which begin at this place, no token stands behind the blanks in front;
+-- and the place of that
 pub record BreaksFrom (here : ℕ) (bytes : List ℕ) (at : ℕ) : Type 0 where
   pub blanks : List ℕ
   pub rest : List ℕ

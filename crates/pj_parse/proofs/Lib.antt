@@ -32,3 +32,4 @@ pub mod LineScripts
 pub mod LineSpelling
 pub mod ManyLoop
 pub mod MembersLoop
+pub mod RowLayoutLemmas

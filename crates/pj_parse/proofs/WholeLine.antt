@@ -1,6 +1,6 @@
 -- A whole line is read exactly: the statement, or the place of the first lexeme that doesn't fit.
 use Rattle.std.proofs.Common.{◌≡◌, ℕ, zero, suc, ◌+◌, ◌<◌, ◌≤◌, false}
-use Rattle.std.proofs.Common.{List, [], ◌∷◌, ◌++◌, length, take, drop, Ok}
+use Rattle.std.proofs.Common.{List, [], ◌∷◌, ◌++◌, ◌⊎◌, length, take, drop, Result, Ok}
 use Rattle.std.proofs.Common.{Err, refl, sym, ap, subst, ◌∙◌, inl, inr, arith}
 use Rattle.std.proofs.lemmas.List.{length-append, append-nil, append_assoc, take_at, drop_at}
 use Rattle.std.proofs.lemmas.List.{take-take, take-append-drop, append_cancel_right}
@@ -13,7 +13,7 @@ use Rattle.pj_parse.specs.GrammarStatements.{line, Line}
 use Rattle.pj_parse.specs.ParsingValues.{value_at}
 use Rattle.pj_parse.specs.ParsingStatements.{line_at, to_end, whole_line}
 use Rattle.pj_parse.specs.Statements.{Begins, IsPlace}
-use Rattle.pj_parse.specs.StatementLaws.{OneStatement, OnePlace}
+use Rattle.pj_parse.specs.StatementLaws.{OneStatement, OnePlace, LineOrPlace}
 use Rattle.pj_parse.proofs.ReadsRule.{Stops, IsExact, Reads}
 use Rattle.pj_parse.proofs.RulesDepth.{value_reads}
 use Rattle.pj_parse.proofs.RulesLone.{value_lone}
@@ -210,3 +210,12 @@ whole_stuck ts rest e = go (line_at (value_at (length ts)) ts) (at_each ts) e
     go (Err rest') each e =
         let same : rest' ≡ rest = cc in
         let p = stuck_place ts rest' each in (p.0, p.1, sym same ∙ p.2)
+
+-- so lexemes are a line, or have a place
+pub line_or_place : LineOrPlace
+line_or_place ts = go (whole_line ts) refl
+  where
+    go : (answer : Result Statement (List Lexeme)) → whole_line ts ≡ answer
+        → ((s : Statement) × Line ts s) ⊎ ((at : ℕ) × IsPlace ts at)
+    go (Ok s) e = inl (s, whole_found ts s e)
+    go (Err rest) e = let p = whole_stuck ts rest e in inr (p.0, p.1)

@@ -38,10 +38,11 @@ name = word_that may_name
 abbrev pub list_name : Grammar (List ℕ)
 list_name = word_that may_name_list
 
--- the same where the keyword IF may stand
+-- a name where the keyword IF may stand
 abbrev pub name_but_if : Grammar (List ℕ)
 name_but_if = word_that (λ bytes. may_name bytes && is_not_if bytes)
 
+-- a name before a parenthesis, where the keyword IF may stand
 abbrev pub list_name_but_if : Grammar (List ℕ)
 list_name_but_if = word_that (λ bytes. may_name_list bytes && is_not_if bytes)
 

@@ -98,10 +98,11 @@ reserved =
     ∷ codes "AS" ∷ codes "AND" ∷ codes "OR" ∷ codes "NOT" ∷ codes "ASC" ∷ codes "DESC" ∷ codes "PROJECTION"
     ∷ []
 
--- the functions that any letter case names, and those that are read exactly
+-- the functions that any letter case names
 abbrev pub functions : List (List ℕ)
 functions = codes "COUNT" ∷ codes "SUM" ∷ codes "MIN" ∷ codes "MAX" ∷ []
 
+-- the functions that are read exactly
 abbrev pub exact_functions : List (List ℕ)
 exact_functions = codes "uniqExact" ∷ codes "intDiv" ∷ []
 

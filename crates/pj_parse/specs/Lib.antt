@@ -20,3 +20,4 @@ pub mod ParsingValues
 pub mod ParsingSelects
 pub mod ParsingTables
 pub mod ParsingStatements
+pub mod RowLayout

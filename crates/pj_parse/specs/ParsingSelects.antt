@@ -119,16 +119,19 @@ order_by_at value = do
 unfoldable pub where_value_at : Parser Tree → Parser Tree
 where_value_at value = behind_at (keyword_at (codes "WHERE")) value
 
--- [WHERE value], [GROUP BY ..], [ORDER BY ..], [LIMIT number]
+-- [WHERE value]
 unfoldable pub maybe_where_at : Parser Tree → Parser (Option Tree)
 maybe_where_at value = optional_at (is_keyword (codes "WHERE")) (where_value_at value)
 
+-- [GROUP BY value {"," value}]
 unfoldable pub maybe_groups_at : Parser Tree → Parser (Option (List Tree))
 maybe_groups_at value = optional_at (is_keyword (codes "GROUP")) (group_by_at value)
 
+-- [ORDER BY okey {"," okey}]
 unfoldable pub maybe_order_at : Parser Tree → Parser (Option (List TreeOrder))
 maybe_order_at value = optional_at (is_keyword (codes "ORDER")) (order_by_at value)
 
+-- [LIMIT number]
 unfoldable pub maybe_limit_at : Parser (Option ℕ)
 maybe_limit_at = optional_at (is_keyword (codes "LIMIT")) (behind_at (keyword_at (codes "LIMIT")) number_at)
 

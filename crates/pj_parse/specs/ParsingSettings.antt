@@ -14,10 +14,11 @@ use Rattle.pj_parse.specs.ParsingWords.{is_keyword, is_exactly, keyword_at, exac
 use Rattle.pj_parse.specs.ParsingWords.{sign_at, number_that_at, is_text_exactly, text_exactly_at}
 use Rattle.pj_parse.specs.ParsingWords.{means_at, behind_at, listed_at}
 
--- 0 | 1
+-- the number 0
 abbrev pub is_zero : Lexeme → Bool
 is_zero = is_number (λ n. n == 0)
 
+-- 0 or 1
 unfoldable pub flag_at : Parser Bool
 flag_at =
     or_at is_zero (means_at (one_at is_zero no_value) false)

@@ -40,10 +40,11 @@ row_at = in_parens_at literals_at
 unfoldable pub rows_at : Parser (List (List Value))
 rows_at = listed_at row_at
 
--- name ["(" name {"," name} ")"]
+-- a function's word
 abbrev pub is_function_name : Lexeme → Bool
 is_function_name = is_word names_function
 
+-- name ["(" name {"," name} ")"]
 unfoldable pub target_at : Parser (List ℕ × Option (List (List ℕ)))
 target_at =
     or_at is_function_name
@@ -89,6 +90,7 @@ projection_there_at capitals = do
   _ ← keyword_at (codes "PROJECTION")
   maybe_there_at
 
+-- the same, as the action that it means
 abbrev pub on_projection_at : List ℕ → (Bool → List ℕ → TreeAction) → Parser TreeAction
 on_projection_at capitals meaning =
     projection_there_at capitals >>= λ named. nothing_at (meaning named.0 named.1)
@@ -189,6 +191,7 @@ table_behind_at capitals = do
   _ ← keyword_at capitals
   name_at
 
+-- MERGE name, MUTATE name
 abbrev pub task_at : List ℕ → (List ℕ → Statement) → Parser Statement
 task_at capitals meaning = table_behind_at capitals >>= λ table. nothing_at (meaning table)
 

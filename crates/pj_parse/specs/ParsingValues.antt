@@ -36,10 +36,11 @@ unfoldable pub atom_at : Parser Tree → Parser Tree
 atom_at value =
     ahead_at (is_exactly (codes "intDiv")) (is_symbol Left) (quotient_at value) (simple_atom_at value)
 
--- whether a factor follows, or "*" atom | "%" positive
+-- whether a factor follows
 abbrev pub begins_factor : Lexeme → Bool
 begins_factor lexeme = is_symbol Star lexeme || is_symbol Percent lexeme
 
+-- "*" atom | "%" positive
 unfoldable pub factor_at : Parser Tree → Parser Factor
 factor_at value =
     or_at (is_symbol Star)
@@ -66,13 +67,14 @@ arith_at value = do
   more ← many_at (is_symbol Plus) (behind_at (sign_at Plus) (product_at value))
   nothing_at (grouped ops.Add first more)
 
--- "=" | "!=" | "<" | "<=" | ">" | ">="
+-- whether a comparison follows
 abbrev pub begins_comparison : Lexeme → Bool
 begins_comparison lexeme =
     is_symbol Eq lexeme ||
     (is_symbol Ne lexeme ||
     (is_symbol Lt lexeme || (is_symbol Le lexeme || (is_symbol Gt lexeme || is_symbol Ge lexeme))))
 
+-- "=" | "!=" | "<" | "<=" | ">" | ">="
 unfoldable pub comparison_at : Parser TreeOp
 comparison_at =
     or_at (is_symbol Eq) (means_at (sign_at Eq) ops.Eq)

@@ -7,10 +7,11 @@ use Rattle.pj_parse.specs.Lexemes.{is_text, is_symbol, spells, may_name, names_f
 use Rattle.pj_parse.specs.GrammarWords.{is_not_if, may_name_list}
 use Rattle.pj_parse.specs.Parsing.{Parser, ◌>>=◌, one_at, nothing_at, many_at}
 
--- the keyword of these capitals, the word exactly
+-- the keyword of these capitals
 abbrev pub is_keyword : List ℕ → Lexeme → Bool
 is_keyword capitals = is_word (spells capitals)
 
+-- the word exactly
 abbrev pub is_exactly : List ℕ → Lexeme → Bool
 is_exactly bytes = is_word (λ word. same word bytes)
 
@@ -38,10 +39,11 @@ name_at = word_that_at may_name
 abbrev pub list_name_at : Parser (List ℕ)
 list_name_at = word_that_at may_name_list
 
--- the same where the keyword IF may stand
+-- a name where the keyword IF may stand
 abbrev pub name_but_if_at : Parser (List ℕ)
 name_but_if_at = word_that_at (λ bytes. may_name bytes && is_not_if bytes)
 
+-- a name before a parenthesis, where the keyword IF may stand
 abbrev pub list_name_but_if_at : Parser (List ℕ)
 list_name_but_if_at = word_that_at (λ bytes. may_name_list bytes && is_not_if bytes)
 
@@ -53,10 +55,11 @@ function_name_at = word_that_at names_function
 abbrev pub number_that_at : (ℕ → Bool) → Parser ℕ
 number_that_at test = one_at (is_number test) number_of
 
--- any number
+-- whether it is a number
 abbrev pub is_any_number : Lexeme → Bool
 is_any_number = is_number (λ n. true)
 
+-- a number
 abbrev pub number_at : Parser ℕ
 number_at = number_that_at (λ n. true)
 
@@ -64,17 +67,19 @@ number_at = number_that_at (λ n. true)
 abbrev pub positive_at : Parser ℕ
 positive_at = number_that_at (λ n. nat_le 1 n)
 
--- a text
+-- whether it is a text
 abbrev pub is_any_text : Lexeme → Bool
 is_any_text = is_text (λ bytes. true)
 
+-- a text
 abbrev pub text_at : Parser (List ℕ)
 text_at = one_at is_any_text bytes_of
 
--- a text exactly
+-- whether it is a text of these bytes
 abbrev pub is_text_exactly : List ℕ → Lexeme → Bool
 is_text_exactly bytes = is_text (λ text. same text bytes)
 
+-- a text of these bytes
 abbrev pub text_exactly_at : List ℕ → Parser (Unit {0})
 text_exactly_at bytes = one_at (is_text_exactly bytes) no_value
 

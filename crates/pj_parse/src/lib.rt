@@ -17,10 +17,11 @@ mod settings;
 mod statements;
 mod tables;
 pub mod types;
+mod value_rows;
 mod values;
 mod words;
 
-pub use laws::{one_place, one_statement};
+pub use laws::{line_or_place, one_place, one_statement};
 pub use lines::{
     ScriptFault, lines_rise, no_script_with_a_bad_line, one_bad_line, one_reading, script,
 };

@@ -1,4 +1,6 @@
-//! Reads INSERT. It takes time in step with its tokens.
+//! Reads INSERT. It takes time in step with its tokens. What is done for each value is inlined: with calls of
+//! their own, reading the rows takes half as long again.
+ghost use Rattle.std.specs.Prelude.{◌≡◌, [], OnOk};
 ghost use Rattle.pj_parse.specs.Given.{Gives, both_and};
 ghost use Rattle.pj_parse.specs.ParsingStatements.{literal_at, literals_at, row_at, rows_at, target_at};
 ghost use Rattle.pj_parse.specs.ParsingStatements.{insert_at};
@@ -7,11 +9,13 @@ use crate::names::names_in_parens;
 use crate::reading::{function_name, keyword, list_name, number, sign, text};
 use crate::rest::{Fault, Rest};
 use crate::types::Statement;
+use crate::value_rows::{RowsSoFar, ValueRows};
 use pj_lex::Symbol;
 use pj_value::{List, Text, Value};
 use std::alloc::Global;
 
 /// A number or a text.
+#[inline(always)]
 #[tactic(auto, unfolding(crate::specs::ParsingStatements::literal_at))]
 fn literal<'a>(alloc: Global, rest: Rest<'a>) -> Result<(Value, Rest<'a>), Fault<'a>>
     ensures { Gives (λ x. x) result (literal_at rest.entry) }
@@ -24,15 +28,17 @@ fn literal<'a>(alloc: Global, rest: Rest<'a>) -> Result<(Value, Rest<'a>), Fault
     Ok((Value::Text(bytes), rest))
 }
 
-/// Numbers and texts between commas.
+/// Numbers and texts between commas, put into a row that has no value yet.
+#[inline(always)]
 #[tactic(auto, unfolding(crate::specs::ParsingStatements::literals_at))]
-fn literals<'a>(alloc: Global, rest: Rest<'a>) -> Result<(List<Value>, Rest<'a>), Fault<'a>>
-    ensures { Gives (λ x. x) result (literals_at rest.entry) }
+fn literals<'a>(alloc: Global, rows: &mut RowsSoFar, rest: Rest<'a>) -> Result<Rest<'a>, Fault<'a>>
+    requires { rows.old.begun ≡ [] }
+    ensures read { Gives (λ behind. (rows.new.begun, behind)) result (literals_at rest.entry) }
+    ensures whole { OnOk result (rows.new.whole ≡ rows.old.whole) }
 {
     let (first, rest) = literal(alloc, rest)?;
     let mut rest = rest;
-    let mut values = Vec::new(alloc);
-    values.push(first)?;
+    rows.push(first)?;
     // There are no more values than tokens.
     'values: for _i in 0..rest.len() {
         if !rest.begins_symbol(Symbol::Comma) {
@@ -40,43 +46,44 @@ fn literals<'a>(alloc: Global, rest: Rest<'a>) -> Result<(List<Value>, Rest<'a>)
         }
         let behind = sign(Symbol::Comma, rest)?;
         let (one, behind) = literal(alloc, behind)?;
-        values.push(one)?;
+        rows.push(one)?;
         rest = behind;
     }
-    Ok((List::from_vec(values), rest))
+    Ok(rest)
 }
 
-/// The values of a row, in parentheses.
+/// The values of a row, in parentheses, put into a row that has no value yet.
+#[inline(always)]
 #[tactic(auto, unfolding(crate::specs::ParsingStatements::row_at))]
-fn row<'a>(alloc: Global, rest: Rest<'a>) -> Result<(List<Value>, Rest<'a>), Fault<'a>>
-    ensures { Gives (λ x. x) result (row_at rest.entry) }
+fn row<'a>(alloc: Global, rows: &mut RowsSoFar, rest: Rest<'a>) -> Result<Rest<'a>, Fault<'a>>
+    requires { rows.old.begun ≡ [] }
+    ensures read { Gives (λ behind. (rows.new.begun, behind)) result (row_at rest.entry) }
+    ensures whole { OnOk result (rows.new.whole ≡ rows.old.whole) }
 {
     let rest = sign(Symbol::Left, rest)?;
-    let (values, rest) = literals(alloc, rest)?;
+    let rest = literals(alloc, rows, rest)?;
     let rest = sign(Symbol::Right, rest)?;
-    Ok((values, rest))
+    Ok(rest)
 }
 
 /// Rows between commas.
 #[tactic(auto, unfolding(crate::specs::ParsingStatements::rows_at))]
-fn row_list<'a>(alloc: Global, rest: Rest<'a>) -> Result<(List<List<Value>>, Rest<'a>), Fault<'a>>
+fn row_list<'a>(alloc: Global, rest: Rest<'a>) -> Result<(ValueRows, Rest<'a>), Fault<'a>>
     ensures { Gives (λ x. x) result (rows_at rest.entry) }
 {
-    let (first, rest) = row(alloc, rest)?;
-    let mut rest = rest;
-    let mut rows = Vec::new(alloc);
-    rows.push(first)?;
+    let mut rows = RowsSoFar::new(alloc);
+    let mut rest = row(alloc, &mut rows, rest)?;
+    rows.end_row()?;
     // There are no more rows than tokens.
     'rows: for _i in 0..rest.len() {
         if !rest.begins_symbol(Symbol::Comma) {
             break;
         }
         let behind = sign(Symbol::Comma, rest)?;
-        let (one, behind) = row(alloc, behind)?;
-        rows.push(one)?;
-        rest = behind;
+        rest = row(alloc, &mut rows, behind)?;
+        rows.end_row()?;
     }
-    Ok((List::from_vec(rows), rest))
+    Ok((rows.finish(), rest))
 }
 
 /// The table that gets the rows, and the columns that they fill, where these are named.

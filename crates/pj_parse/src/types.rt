@@ -1,5 +1,6 @@
 //! What is read: a script of lines, and the statement of a body. Lists stand in the order of the text.
-use pj_value::{AggKind, Kind, List, Text, Value};
+pub use crate::value_rows::ValueRows;
+use pj_value::{AggKind, Kind, List, Text};
 use sqlite_items::Boxed;
 
 /// The program that a script is for, which decides what its lines may be.
@@ -189,7 +190,7 @@ pub enum Statement {
         table: Text,
         /// The columns that the rows fill, where they are named.
         columns: Option<List<Text>>,
-        rows: List<List<Value>>,
+        rows: ValueRows,
     },
     Select(TreeSelect),
     Explain(TreeSelect),

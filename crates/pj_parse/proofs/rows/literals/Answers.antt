@@ -1,35 +1,15 @@
-use Rattle.std.proofs.Common.{◌+◌, ◌-◌, arith, rules}
-use Rattle.std.proofs.lemmas.Result.{err_from_is_err_and}
+use Rattle.std.proofs.Common.{◌≡◌, ◌+◌, ◌-◌, ap, arith, rules, ◌∙◌}
+use Rattle.pj_parse.specs.RowLayout.{WithBegun}
 use Rattle.pj_parse.specs.ParsingStatements.{literal_at}
-use Rattle.pj_parse.proofs.ManyLoop.{list-step, list-fails, list-ends, list-stops}
+use Rattle.pj_parse.proofs.ManyLoop.{list-step}
 use Rattle.pj_parse.proofs.rows.literals.Goals as goal
-use Rattle.pj_parse.proofs.rows.literals.Goals.{else-values-test, then-values-test+then-not-begins_symbol}
 
 pub values-preserved : goal.values-preserved
 values-preserved c =
     let now = c.len-i-end.result - c.values._i in
-    let next = c.len-i-end.result - (c.values._i + 1) in
-    rw c.in_ok-push-2.ensures.items
-    (list-step literal_at now next _ _ _ _ _ _ c.values.invariant (omega arith) (search rules)
-    c.in_ok-behind.ensures c.in_ok-one.ensures)
-
-pub returns-in_err-one : goal.returns-in_err-one
-returns-in_err-one c =
-    let p = err_from_is_err_and c.from_residual-in_err-one.result c.from_residual-in_err-one.ensures.1 in
-    let now = c.len-i-end.result - c.values._i in
-    let next = c.len-i-end.result - (c.values._i + 1) in
-    rw (p.1, p.2)
-    (list-fails literal_at now next _ _ _ _ _ c.values.invariant (omega arith) (search rules)
-    c.in_ok-behind.ensures c.in_err-one.ensures)
-
-pub returns : goal.returns
-returns c =
-    let now = c.len-i-end.result - c.values._i in
-    rw c.from_vec.ensures
-    (elim c.values-test.branch [
-      | else-values-test w ↦
-          let no = w.values-test.false in list-ends literal_at now _ _ _ c.values.invariant (omega arith)
-      | then-values-test+then-not-begins_symbol w ↦
-          let no = w.begins_symbol.ensures in
-          list-stops literal_at now _ _ _ c.values.invariant (search rules)
-    ])
+    let next = c.len-i-end.result - (c.values._i + 1) in (
+      rw (ap (λ (r : WithBegun). r.begun) c.in_ok-push-2.ensures)
+          (list-step literal_at now next _ _ _ _ _ _ c.values.invariant.0 (omega arith) (search rules)
+          c.in_ok-behind.ensures c.in_ok-one.ensures),
+      ap (λ (r : WithBegun). r.whole) c.in_ok-push-2.ensures ∙ c.values.invariant.1,
+    )

@@ -5,4 +5,5 @@ use Rattle.pj_parse.proofs.rows.literals.Given as goal
 
 abbrev pub invariant-values : goal.invariant-values
 invariant-values l =
-    list_going literal_at l.values.items (l._i-end - l._i) l.rest ≡ literals_at l.fn.rest
+    (list_going literal_at l.rows.begun (l._i-end - l._i) l.rest ≡ literals_at l.fn.rest)
+    × (l.rows.whole ≡ l.fn.rows.whole)
