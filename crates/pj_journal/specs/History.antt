@@ -1,12 +1,13 @@
 -- What a history leaves: the catalog, the blocks and rows of a table, the next number (docs/MODEL.md,
 -- "Histories").
 use Rattle.std.specs.Prelude.{◌≡◌, ◌<◌, ℕ, ◌+◌, List, [], ◌∷◌, ◌++◌, length, map, fold}
-use Rattle.std.specs.Prelude.{◌==◌, if◌then◌else◌, Some, slice_get, Contains}
+use Rattle.std.specs.Prelude.{◌==◌, if◌then◌else◌, Option, Some, None, slice_get, Contains}
 use Rattle.std.specs.List.{flat_map}
 use Rattle.pj_value.specs.declared.value.Kind.{Kind}
 use Rattle.pj_value.specs.declared.value.Value.{Value}
-use Rattle.pj_value.specs.Rows.{HaveKinds}
-use Rattle.pj_journal.specs.declared.table.Table.{Table}
+use Rattle.pj_value.specs.Rows.{KindedRows, HaveKinds}
+use Rattle.pj_expr.specs.declared.table.Table.{Table}
+use Rattle.pj_expr.specs.Tables.{names, kinds_of}
 use Rattle.pj_journal.specs.declared.entry.What.{What}
 use Rattle.pj_journal.specs.declared.entry.What.TheVariants.{Created, Refused, Looked, Begun, Inserted}
 use Rattle.pj_journal.specs.declared.entry.Entry.{Entry}
@@ -45,6 +46,15 @@ blocks h t = fold (λ bs entry. blocks_on t bs entry.what) [] h
 abbrev pub rows : List Entry → ℕ → List (List Value)
 rows h t = flat_map (λ block. block.rows) (blocks h t)
 
+-- the kinds of a table's columns, none where it isn't there
+abbrev pub kinds_at : Option Table → List Kind
+kinds_at None = []
+kinds_at (Some table) = kinds_of table
+
+-- a table as a query reads it: its rows, with the kinds of its columns
+abbrev pub table_rows : List Entry → ℕ → KindedRows
+table_rows h t = record { kinds = kinds_at (slice_get (catalog h) t); rows = rows h t }
+
 -- the next number of a table after a move
 abbrev pub next_on : ℕ → ℕ → What → ℕ
 next_on t n (Created table) = n
@@ -56,14 +66,6 @@ next_on t n (Inserted table block rows) = if table == t then n + 1 else n
 -- the number that the table draws next, from 1
 abbrev pub next : List Entry → ℕ → ℕ
 next h t = fold (λ n entry. next_on t n entry.what) 1 h
-
--- the names of the tables
-abbrev pub names : List Table → List (List ℕ)
-names tables = map (λ table. table.name) tables
-
--- the kinds of a table's columns
-abbrev pub kinds_of : Table → List Kind
-kinds_of table = map (λ column. column.kind) table.columns
 
 -- the move fits the history before it: names are new, tables are there, numbers are the next ones, rows have
 -- the kinds of their table

@@ -1,7 +1,7 @@
 //! The catalog: the tables that there are, in the order of their creation.
 ghost use Rattle.std.specs.Prelude.{◌≡◌, ◌<◌, ◌≤◌, [], ◌∷◌, ◌++◌, length, OnOk, OnErr};
 
-use crate::table::Table;
+use pj_expr::Table;
 use pj_value::NoMemory;
 use std::alloc::Global;
 use std::marker::Model;
@@ -17,7 +17,7 @@ pub struct Catalog {
 
 impl Model for Catalog {
     ghost use Rattle.std.specs.Prelude.{List};
-    ghost use Rattle.pj_journal.specs.declared.table.Table.{Table};
+    ghost use Rattle.pj_expr.specs.declared.table.Table.{Table};
 
     ghost Value = { List Table };
 

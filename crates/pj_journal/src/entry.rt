@@ -1,5 +1,5 @@
 //! An entry of the history: who did what, and for which line of the script.
-use crate::table::Table;
+use pj_expr::Table;
 use pj_value::Rows;
 
 /// Who made an entry.

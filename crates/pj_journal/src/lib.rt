@@ -5,13 +5,11 @@
 mod catalog;
 mod entry;
 mod journal;
-mod table;
 pub mod types;
 
 pub use catalog::TABLES;
 pub use entry::{Actor, Entry, What};
 pub use journal::{Journal, MoveFault};
-pub use table::{ColumnDef, Table};
 
 #[cfg(test)]
 mod tests;

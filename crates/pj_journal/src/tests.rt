@@ -1,6 +1,7 @@
 //! What no clause says: that calls succeed where memory is ample.
 use super::*;
 use crate::types::Catalog;
+use pj_expr::{ColumnDef, LightMode, Table};
 use pj_value::{Kind, List, NoMemory, Text};
 use std::alloc::Global;
 use std::test::Fail;
@@ -15,6 +16,8 @@ fn table(alloc: Global) -> Result<Table, NoMemory> {
         name: Text::new(alloc, b"t")?,
         columns: List::from_vec(columns),
         key: List::from_vec(vec![in alloc; 0usize]?),
+        granularity: 8192,
+        mode: LightMode::Throw,
     })
 }
 

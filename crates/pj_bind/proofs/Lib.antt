@@ -1,0 +1,5 @@
+pub mod BindLaws
+mod FaultLemmas
+mod NameLemmas
+mod QueryLemmas
+mod TableLemmas

@@ -1,0 +1,72 @@
+use Rattle.std.proofs.Common.{◌≡◌, List, refl, sym, ap, ◌∙◌, inr, arith}
+use Rattle.pj_expr.specs.declared.table.ColumnDef.{ColumnDef}
+use Rattle.pj_bind.specs.Names.{first_unknown}
+use Rattle.pj_bind.specs.Filling.{column_names}
+use Rattle.pj_bind.specs.Binding.{new_names, IsCreateRefusal}
+use Rattle.pj_bind.proofs.FaultLemmas.{IsFault-is, table-found, HasRoom-from}
+use Rattle.pj_bind.proofs.FaultLemmas.{NoneRepeats-from, IsFirstRepeat-from}
+use Rattle.pj_bind.proofs.binding.check_create.Goals as goal
+
+pub returns-then-is_some-clause-refused : goal.returns-then-is_some-clause-refused
+returns-then-is_some-clause-refused c = (
+  c.in_ok-name.ensures,
+  table-found c.args.tables.now c.args.name.now c.place_of.result (sym c.is_some.ensures ∙ c.if-is_some.true)
+      c.place_of.ensures,
+)
+
+pub returns-in-Some-2-clause-refused : goal.returns-in-Some-2-clause-refused
+returns-in-Some-2-clause-refused c =
+    let columns = c.args.columns.now in
+    let names : c.as_slice-2.result.now ≡ new_names columns =
+    c.as_slice-2.ensures.value ∙ c.in_ok-names.ensures
+    ∙ ap column_names (c.as_slice.ensures.value ∙ c.in_ok-defs.ensures) in
+    IsFault-is (IsCreateRefusal c.args.tables.now c.args.name.now columns c.args.key.now) _ _
+    c.duplicate_column-in-Some-2.ensures (
+      HasRoom-from c.args.tables.now c.args.name.now columns c.place_of.result
+          (sym c.is_some.ensures ∙ c.if-is_some.false) c.place_of.ensures (omega arith) (omega arith),
+      inr (
+        NoneRepeats-from _ _ names c.in_ok-repeated.field-0 c.in_default.is c.in_ok-repeated.ensures,
+        IsFirstRepeat-from _ _ refl c.in_ok-repeated-2.field-0 c.in-Some-2.repeated c.in-Some-2.is
+            c.in_ok-repeated-2.ensures,
+      ),
+    )
+
+pub returns-in-Some-unknown_in_names-clause-refused :
+    goal.returns-in-Some-unknown_in_names-clause-refused
+returns-in-Some-unknown_in_names-clause-refused c =
+    let columns = c.args.columns.now in
+    let names : c.as_slice-2.result.now ≡ new_names columns =
+    c.as_slice-2.ensures.value ∙ c.in_ok-names.ensures
+    ∙ ap column_names (c.as_slice.ensures.value ∙ c.in_ok-defs.ensures) in
+    IsFault-is (IsCreateRefusal c.args.tables.now c.args.name.now columns c.args.key.now) _ _
+    c.unknown_identifier.ensures (
+      HasRoom-from c.args.tables.now c.args.name.now columns c.place_of.result
+          (sym c.is_some.ensures ∙ c.if-is_some.false) c.place_of.ensures (omega arith) (omega arith),
+      (
+        NoneRepeats-from _ _ names c.in_ok-repeated.field-0 c.in_default.is c.in_ok-repeated.ensures,
+        NoneRepeats-from _ _ refl c.in_ok-repeated-2.field-0 c.in_default-2.is c.in_ok-repeated-2.ensures,
+      ),
+      sym (c.in-Some-unknown_in_names.ensures
+          ∙ ap (λ (defs : List ColumnDef). first_unknown (column_names defs) c.args.key.now)
+          (c.as_slice-3.ensures.value ∙ c.in_ok-defs.ensures)),
+    )
+
+pub returns-clause-can : goal.returns-clause-can
+returns-clause-can c =
+    let columns = c.args.columns.now in
+    let names : c.as_slice-2.result.now ≡ new_names columns =
+    c.as_slice-2.ensures.value ∙ c.in_ok-names.ensures
+    ∙ ap column_names (c.as_slice.ensures.value ∙ c.in_ok-defs.ensures) in
+    record {
+      room =
+          HasRoom-from c.args.tables.now c.args.name.now columns c.place_of.result
+          (sym c.is_some.ensures ∙ c.if-is_some.false) c.place_of.ensures (omega arith) (omega arith);
+      once = (
+        NoneRepeats-from _ _ names c.in_ok-repeated.field-0 c.in_default.is c.in_ok-repeated.ensures,
+        NoneRepeats-from _ _ refl c.in_ok-repeated-2.field-0 c.in_default-2.is c.in_ok-repeated-2.ensures,
+      );
+      known =
+          sym (c.in_default-unknown_in_names.ensures
+          ∙ ap (λ (defs : List ColumnDef). first_unknown (column_names defs) c.args.key.now)
+          (c.as_slice-3.ensures.value ∙ c.in_ok-defs.ensures));
+    }

@@ -1,0 +1,32 @@
+use Rattle.std.proofs.Common.{◌≡◌, length, Decides, refl, sym, ◌∙◌, arith}
+use Rattle.std.proofs.lemmas.Bool.{false≢true}
+use Rattle.std.proofs.lemmas.List.{take_all}
+use Rattle.std.proofs.lemmas.Option.{slice_get_read}
+use Rattle.pj_bind.proofs.binding.place_of.Goals as goal
+use Rattle.pj_bind.proofs.TableLemmas.{Decides-names, IsUnknown-more}
+
+pub returns-then-eq : goal.returns-then-eq
+returns-then-eq c =
+    let same : Decides c.eq.result (c.index-tables-place.result.name ≡ c.args.name.now) =
+    rw (← c.as_slice.ensures, ← c.as_slice-in-tables.ensures)
+    (Decides-names c.eq.result _ _ c.eq.ensures) in (
+      c.index-tables-place.result,
+      (
+        slice_get_read c.args.tables.now
+            (length c.args.tables.now) c.tables.place c.index-tables-place.result refl
+            (omega arith) c.index-tables-place.is,
+        same.0 c.if-eq.true,
+      ),
+    )
+
+pub tables-preserved : goal.tables-preserved
+tables-preserved c =
+    let same : Decides c.eq.result (c.index-tables-place.result.name ≡ c.args.name.now) =
+    rw (← c.as_slice.ensures, ← c.as_slice-in-tables.ensures)
+    (Decides-names c.eq.result _ _ c.eq.ensures) in
+    IsUnknown-more c.args.tables.now c.args.name.now c.tables.place c.index-tables-place.result
+    (omega arith) c.index-tables-place.is
+    (λ named. false≢true (sym c.if-eq.false ∙ same.1 named)) c.tables.invariant
+
+pub returns : goal.returns
+returns c = rw (sym (take_all c.tables.place c.args.tables.now (omega arith))) c.tables.invariant

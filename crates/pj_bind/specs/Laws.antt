@@ -1,0 +1,50 @@
+-- Laws over the definitions of this crate, each shown by a function of its own (src/laws.rt).
+use Rattle.std.specs.Prelude.{◌≡◌, ℕ, List, Some, slice_get}
+use Rattle.pj_parse.specs.declared.types.Statement.{Statement}
+use Rattle.pj_parse.specs.declared.types.Statement.TheVariants as statements
+use Rattle.pj_parse.specs.declared.types.TreeSelect.{TreeSelect}
+use Rattle.pj_expr.specs.declared.query.Query.{Query}
+use Rattle.pj_expr.specs.declared.table.Table.{Table}
+use Rattle.pj_expr.specs.Tables.{kinds_of}
+use Rattle.pj_expr.specs.Fits.{FitsQuery}
+use Rattle.pj_bind.specs.declared.types.Bound.{Bound}
+use Rattle.pj_bind.specs.declared.types.Bound.TheVariants as bounds
+use Rattle.pj_bind.specs.declared.types.Refusal.{Refusal}
+use Rattle.pj_bind.specs.Built.{IsBuilt}
+use Rattle.pj_bind.specs.Binding.{IsTableAt, IsBound, IsRefusal}
+
+-- no two of the tables have one name
+abbrev pub HasUniqueNames : List Table → Type 0
+HasUniqueNames tables =
+    (i j : ℕ) (a b : Table) → slice_get tables i ≡ Some a → slice_get tables j ≡ Some b → a.name ≡ b.name
+    → i ≡ j
+
+-- where no two tables have one name, a statement is refused in one way at most
+abbrev pub OneRefusal : Type 0
+OneRefusal =
+    (tables : List Table) (statement : Statement) (a b : Refusal) → HasUniqueNames tables
+    → IsRefusal tables statement a → IsRefusal tables statement b → a ≡ b
+
+-- where no two tables have one name, a statement of a built form that binds isn't refused
+abbrev pub BoundOrRefused : Type 0
+BoundOrRefused =
+    (tables : List Table) (statement : Statement) (bound : Bound) (refusal : Refusal) → HasUniqueNames tables
+    → IsBuilt statement → IsBound tables statement bound → IsRefusal tables statement refusal → ⊥
+
+-- where no two tables have one name, a statement binds in one way at most
+abbrev pub OneBound : Type 0
+OneBound =
+    (tables : List Table) (statement : Statement) (a b : Bound) → HasUniqueNames tables
+    → IsBound tables statement a → IsBound tables statement b → a ≡ b
+
+-- the query fits the table of this name that has this number
+abbrev pub FitsTableAt : List Table → List ℕ → ℕ → Query → Type 0
+FitsTableAt tables name place query =
+    (table : Table) × IsTableAt tables name place table × FitsQuery (kinds_of table) query
+
+-- the query that a SELECT binds to fits its table
+abbrev pub BoundQueriesFit : Type 0
+BoundQueriesFit =
+    (tables : List Table) (select : TreeSelect) (place : ℕ) (query : Query)
+    → IsBound tables (statements.Select select) (bounds.Select place query)
+    → FitsTableAt tables select.table place query

@@ -1,0 +1,9 @@
+pub mod Names
+pub mod Meanings
+pub mod Queries
+pub mod Filling
+pub mod Tables
+pub mod Built
+pub mod Binding
+pub mod Faults
+pub mod Laws

@@ -1,0 +1,217 @@
+//! What a tree is once its names are columns: a value or a condition.
+ghost use Rattle.std.specs.Prelude.{◌≡◌, IfOk};
+ghost use Rattle.pj_expr.specs.declared.expr.Expr.TheVariants as exprs;
+ghost use Rattle.pj_expr.specs.declared.cond.Cond.TheVariants as conds;
+ghost use Rattle.pj_bind.specs.Meanings.{column_place, column_named, of_value, of_values, of_conditions};
+ghost use Rattle.pj_bind.specs.Meanings.{negated, compared, pair_meaning, meaning, value_in, condition_in};
+
+use pj_expr::{ColumnDef, Cond, Expr, Op};
+use pj_parse::types::{Tree, TreeOp};
+use pj_value::{NoMemory, Text};
+use sqlite_items::Boxed;
+use std::alloc::Global;
+
+/// A tree whose names are columns.
+#[derive(Debug, Drop)]
+pub(crate) enum Meaning {
+    Value(Expr),
+    Condition(Cond),
+}
+
+/// What a tree is; none where a name is no column, or a value stands for a condition or the other way round.
+/// It takes time linear in the tree, times the columns for each name.
+pub(crate) fn meaning_of(
+    alloc: Global,
+    columns: &[ColumnDef],
+    tree: &Tree,
+) -> Result<Option<Meaning>, NoMemory>
+    ensures { IfOk result (λ m. m ≡ meaning columns.now tree.now) }
+{
+    match tree {
+        Tree::Num(number) => Ok(Some(Meaning::Value(Expr::Num(*number)))),
+        Tree::Text(text) => Ok(Some(Meaning::Value(Expr::Text(text.duplicate(alloc)?)))),
+        Tree::Name(name) => Ok(named(columns, name)),
+        Tree::IntDiv(a, divisor) => quotient(alloc, meaning_of(alloc, columns, a.get())?, *divisor),
+        Tree::Mod(a, divisor) => remainder(alloc, meaning_of(alloc, columns, a.get())?, *divisor),
+        Tree::Pair(op, a, b) => {
+            let a = meaning_of(alloc, columns, a.get())?;
+            let b = meaning_of(alloc, columns, b.get())?;
+            pair(alloc, *op, a, b)
+        }
+        Tree::Not(a) => opposite(alloc, meaning_of(alloc, columns, a.get())?),
+    }
+}
+
+/// The value that a tree is, if it is one.
+pub(crate) fn value_in(meaning: Option<Meaning>) -> Option<Expr>
+    ensures { result ≡ value_in meaning }
+{
+    match meaning {
+        Some(Meaning::Value(value)) => Some(value),
+        Some(Meaning::Condition(_)) => None,
+        None => None,
+    }
+}
+
+/// The condition that a tree is, if it is one.
+pub(crate) fn condition_in(meaning: Option<Meaning>) -> Option<Cond>
+    ensures { result ≡ condition_in meaning }
+{
+    match meaning {
+        Some(Meaning::Value(_)) => None,
+        Some(Meaning::Condition(condition)) => Some(condition),
+        None => None,
+    }
+}
+
+/// The place of the first column of this name.
+pub(crate) fn column_place(columns: &[ColumnDef], name: &Text) -> Option<usize>
+    ensures { result ≡ column_place columns.now name.now }
+{
+    columns
+        .iter()
+        .position(|column| column.name.as_slice() == name.as_slice())
+}
+
+/// The column of this name.
+fn named(columns: &[ColumnDef], name: &Text) -> Option<Meaning>
+    ensures { result ≡ column_named columns.now name.now }
+{
+    match column_place(columns, name) {
+        Some(at) => Some(Meaning::Value(Expr::Column(at))),
+        None => None,
+    }
+}
+
+/// A quotient.
+fn quotient(alloc: Global, a: Option<Meaning>, divisor: u64) -> Result<Option<Meaning>, NoMemory>
+    ensures { IfOk result (λ m. m ≡ of_value (λ x. exprs.IntDiv x divisor) a) }
+{
+    let Some(a) = value_in(a) else {
+        return Ok(None);
+    };
+    let a = Boxed::new(alloc, a)?;
+    Ok(Some(Meaning::Value(Expr::IntDiv(a, divisor))))
+}
+
+/// A remainder.
+fn remainder(alloc: Global, a: Option<Meaning>, divisor: u64) -> Result<Option<Meaning>, NoMemory>
+    ensures { IfOk result (λ m. m ≡ of_value (λ x. exprs.Mod x divisor) a) }
+{
+    let Some(a) = value_in(a) else {
+        return Ok(None);
+    };
+    let a = Boxed::new(alloc, a)?;
+    Ok(Some(Meaning::Value(Expr::Mod(a, divisor))))
+}
+
+/// The opposite of a condition.
+fn opposite(alloc: Global, a: Option<Meaning>) -> Result<Option<Meaning>, NoMemory>
+    ensures { IfOk result (λ m. m ≡ negated a) }
+{
+    let Some(a) = condition_in(a) else {
+        return Ok(None);
+    };
+    let a = Boxed::new(alloc, a)?;
+    Ok(Some(Meaning::Condition(Cond::Not(a))))
+}
+
+/// What two operands make.
+fn pair(
+    alloc: Global,
+    op: TreeOp,
+    a: Option<Meaning>,
+    b: Option<Meaning>,
+) -> Result<Option<Meaning>, NoMemory>
+    ensures { IfOk result (λ m. m ≡ pair_meaning op a b) }
+{
+    match op {
+        TreeOp::Add => sum(alloc, a, b),
+        TreeOp::Mul => product(alloc, a, b),
+        TreeOp::Eq => Ok(comparison(Op::Eq, a, b)),
+        TreeOp::Ne => Ok(comparison(Op::Ne, a, b)),
+        TreeOp::Lt => Ok(comparison(Op::Lt, a, b)),
+        TreeOp::Le => Ok(comparison(Op::Le, a, b)),
+        TreeOp::Gt => Ok(comparison(Op::Gt, a, b)),
+        TreeOp::Ge => Ok(comparison(Op::Ge, a, b)),
+        TreeOp::And => both(alloc, a, b),
+        TreeOp::Or => either(alloc, a, b),
+    }
+}
+
+/// A sum of two values.
+fn sum(alloc: Global, a: Option<Meaning>, b: Option<Meaning>) -> Result<Option<Meaning>, NoMemory>
+    ensures { IfOk result (λ m. m ≡ of_values (λ x y. Meaning.Value (exprs.Add x y)) a b) }
+{
+    let Some(a) = value_in(a) else {
+        return Ok(None);
+    };
+    let Some(b) = value_in(b) else {
+        return Ok(None);
+    };
+    let a = Boxed::new(alloc, a)?;
+    let b = Boxed::new(alloc, b)?;
+    Ok(Some(Meaning::Value(Expr::Add(a, b))))
+}
+
+/// A product of two values.
+fn product(
+    alloc: Global,
+    a: Option<Meaning>,
+    b: Option<Meaning>,
+) -> Result<Option<Meaning>, NoMemory>
+    ensures { IfOk result (λ m. m ≡ of_values (λ x y. Meaning.Value (exprs.Mul x y)) a b) }
+{
+    let Some(a) = value_in(a) else {
+        return Ok(None);
+    };
+    let Some(b) = value_in(b) else {
+        return Ok(None);
+    };
+    let a = Boxed::new(alloc, a)?;
+    let b = Boxed::new(alloc, b)?;
+    Ok(Some(Meaning::Value(Expr::Mul(a, b))))
+}
+
+/// A comparison of two values.
+fn comparison(op: Op, a: Option<Meaning>, b: Option<Meaning>) -> Option<Meaning>
+    ensures { result ≡ compared op a b }
+{
+    let a = value_in(a)?;
+    let b = value_in(b)?;
+    Some(Meaning::Condition(Cond::Compare(op, a, b)))
+}
+
+/// The condition that both hold.
+fn both(alloc: Global, a: Option<Meaning>, b: Option<Meaning>) -> Result<Option<Meaning>, NoMemory>
+    ensures { IfOk result (λ m. m ≡ of_conditions conds.And a b) }
+{
+    let Some(a) = condition_in(a) else {
+        return Ok(None);
+    };
+    let Some(b) = condition_in(b) else {
+        return Ok(None);
+    };
+    let a = Boxed::new(alloc, a)?;
+    let b = Boxed::new(alloc, b)?;
+    Ok(Some(Meaning::Condition(Cond::And(a, b))))
+}
+
+/// The condition that one of them holds.
+fn either(
+    alloc: Global,
+    a: Option<Meaning>,
+    b: Option<Meaning>,
+) -> Result<Option<Meaning>, NoMemory>
+    ensures { IfOk result (λ m. m ≡ of_conditions conds.Or a b) }
+{
+    let Some(a) = condition_in(a) else {
+        return Ok(None);
+    };
+    let Some(b) = condition_in(b) else {
+        return Ok(None);
+    };
+    let a = Boxed::new(alloc, a)?;
+    let b = Boxed::new(alloc, b)?;
+    Ok(Some(Meaning::Condition(Cond::Or(a, b))))
+}

@@ -1,0 +1,56 @@
+//! The types of bound statements and of refusals.
+use pj_expr::{Query, Table};
+use pj_value::{Rows, Text};
+
+/// A statement, with numbers in the place of names.
+#[derive(Debug, Drop)]
+pub enum Bound {
+    /// CREATE TABLE, with the table that it makes.
+    Create(Table),
+    /// INSERT of these rows into the table of this number, with a value for each of its columns.
+    Insert { table: u32, rows: Rows },
+    /// SELECT of the query over the table of this number.
+    Select { table: u32, query: Query },
+}
+
+/// A limit, by the name that its refusal has.
+#[derive(Clone, Copy, Debug, PartialEq, Eq)]
+pub enum LimitName {
+    /// The tokens of a statement: 1,024, where it isn't an INSERT.
+    Tokens,
+    /// The bytes of a text: 65,535.
+    Text,
+    /// The tables that there are: 64.
+    Tables,
+    /// The columns of a table: 64.
+    Columns,
+    /// The entries of the journal.
+    History,
+}
+
+/// Why a statement has no other reply.
+#[derive(Debug, Drop)]
+pub enum Refusal {
+    /// No token stands at this place of the body, or no line of the grammar goes on there.
+    Syntax(usize),
+    /// The limit is reached.
+    Limit(LimitName),
+    /// No table has the name.
+    UnknownTable(Text),
+    /// A table has the name already.
+    TableExists(Text),
+    /// The name stands twice among columns that must differ.
+    DuplicateColumn(Text),
+    /// The name is no column, and no alias where aliases count.
+    UnknownIdentifier(Text),
+    /// A value has another kind than its place wants, or is a condition, or the other way round; or a row has
+    /// more or fewer literals than it fills columns.
+    TypeMismatch,
+    /// An item or a key of ORDER BY of a query that aggregates is no call, and isn't built of GROUP BY values
+    /// and literals.
+    NotAnAggregate,
+    /// This form of statement isn't built yet.
+    NotBuilt,
+    /// There was no memory for the statement.
+    NoMemory,
+}
