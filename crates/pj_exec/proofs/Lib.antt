@@ -1,0 +1,4 @@
+pub mod ColumnLemmas
+pub mod CountLemmas
+pub mod LineLemmas
+pub mod OrderLemmas
