@@ -10,20 +10,21 @@ use Rattle.std.proofs.lemmas.List.Sums.{take_while-cons}
 use Rattle.pj_parse.specs.declared.types.Script.{Script}
 use Rattle.pj_journal.specs.declared.entry.Entry.{Entry}
 use Rattle.pj_journal.specs.declared.entry.What.{What}
-use Rattle.pj_journal.specs.declared.table.Table.{Table}
+use Rattle.pj_expr.specs.declared.table.Table.{Table}
 use Rattle.pj_journal.specs.History.{catalog}
 use Rattle.pj_legal.specs.declared.reply.Reply.{Reply}
-use Rattle.pj_legal.specs.declared.types.Bound.{Bound}
-use Rattle.pj_legal.specs.declared.types.Bound.TheVariants as bounds
-use Rattle.pj_legal.specs.declared.types.LimitName.TheVariants.{History}
-use Rattle.pj_legal.specs.declared.types.Refusal.{Refusal}
-use Rattle.pj_legal.specs.declared.types.Refusal.TheVariants as refusals
+use Rattle.pj_bind.specs.declared.types.Bound.{Bound}
+use Rattle.pj_bind.specs.declared.types.Bound.TheVariants as bounds
+use Rattle.pj_bind.specs.declared.types.LimitName.TheVariants.{History}
+use Rattle.pj_bind.specs.declared.types.Refusal.{Refusal}
+use Rattle.pj_bind.specs.declared.types.Refusal.TheVariants as refusals
 use Rattle.pj_legal.specs.declared.reply.Reply.TheVariants as replies
-use Rattle.pj_legal.specs.Binding.{IsUnreadable, IsRefusal, BodyIsRefused}
+use Rattle.pj_bind.specs.Binding.{IsRefusal}
+use Rattle.pj_legal.specs.Binding.{IsUnreadable, BodyIsRefused}
 use Rattle.pj_legal.specs.Legal.{Said, entry_of, BoundForm, IsFirstMove, IsBegun, StopsAfter, EndsEarly}
 use Rattle.pj_legal.specs.Legal.{Form, added_by, place_of, left_by, statements, NeverFall, IsLegal}
 use Rattle.pj_legal.specs.Laws.{found_by, IsRefusedWhereFull}
-use Rattle.pj_legal.proofs.Refusals.{IsRefusal-names}
+use Rattle.pj_legal.proofs.Refusals.{IsRefusal-no_history}
 
 -- each entry is on the line
 abbrev pub AreOn : ℕ → List Entry → Type 0
@@ -238,7 +239,7 @@ BodyIsRefused-limit : (tables : List Table) (body : List ℕ) (refusal : Refusal
     → refusal ≡ refusals.Limit History → BodyIsRefused tables body refusal → ⊥
 BodyIsRefused-limit tables body refusal same (inl unreadable) = subst (IsUnreadable body) same unreadable
 BodyIsRefused-limit tables body refusal same (inr one) =
-    IsRefusal-names tables one.0 (refusals.Limit History) (subst (IsRefusal tables one.0) same one.2)
+    IsRefusal-no_history tables one.0 (subst (IsRefusal tables one.0) same one.2)
 
 -- nor does a bound statement get that reply with its moves
 BoundForm-limit : (place : List Entry) (said : Said) (bound : Bound) (added : List Entry) (reply : Reply)

@@ -6,7 +6,10 @@ mod Lines
 mod PlainReplies
 mod Refusals
 mod RunLemmas
+mod SelectNames
+mod SpelledWords
 mod StatementNames
 mod StatementWords
-mod Tables
 mod TextLaws
+mod TextSizes
+mod TreeWords

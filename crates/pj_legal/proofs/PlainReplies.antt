@@ -6,18 +6,21 @@ use Rattle.pj_lex.specs.Bytes.{begins_word, is_word_byte, AllAre}
 use Rattle.pj_lex.specs.Tokens.{IsWord}
 use Rattle.pj_parse.specs.declared.types.Script.{Script}
 use Rattle.pj_journal.specs.declared.entry.Entry.{Entry}
-use Rattle.pj_journal.specs.declared.table.Table.{Table}
+use Rattle.pj_expr.specs.declared.table.Table.{Table}
 use Rattle.pj_journal.specs.History.{catalog}
 use Rattle.pj_legal.specs.declared.reply.Reply.{Reply}
-use Rattle.pj_legal.specs.declared.types.Bound.{Bound}
-use Rattle.pj_legal.specs.declared.types.Bound.TheVariants as bounds
-use Rattle.pj_legal.specs.declared.types.Refusal.{Refusal}
-use Rattle.pj_legal.specs.declared.types.Refusal.TheVariants as refusals
+use Rattle.pj_bind.specs.declared.types.Bound.{Bound}
+use Rattle.pj_bind.specs.declared.types.Bound.TheVariants as bounds
+use Rattle.pj_bind.specs.declared.types.Refusal.{Refusal}
+use Rattle.pj_bind.specs.declared.types.Refusal.TheVariants as refusals
+use Rattle.pj_bind.specs.Names.{Name}
 use Rattle.pj_legal.specs.Binding.{IsUnreadable, BodyIsRefused}
 use Rattle.pj_legal.specs.Legal.{Said, BoundForm, Form, added_by, place_of, statements, IsLegal}
 use Rattle.pj_legal.specs.Laws.{IsOneLine, IsPlainRefusal, IsPlain}
-use Rattle.pj_legal.proofs.Refusals.{name_of, IsNaming, IsRefusal-names}
-use Rattle.pj_legal.proofs.StatementWords.{IsWord-name}
+use Rattle.pj_legal.proofs.Refusals.{Names, IsRefusal-names}
+use Rattle.pj_legal.proofs.TreeWords.{AreWords}
+use Rattle.pj_legal.proofs.StatementNames.{names_of}
+use Rattle.pj_legal.proofs.StatementWords.{IsOfWords-body}
 
 -- a line feed is no byte of a word
 IsOneLine-bytes : (bytes : List ℕ) → AllAre is_word_byte bytes → IsOneLine bytes
@@ -34,15 +37,23 @@ IsOneLine-word : (word : List ℕ) → IsWord word → IsOneLine word
 IsOneLine-word [] is = absurd is
 IsOneLine-word (b ∷ bs) is = IsOneLine-bytes (b ∷ bs) (begins_is_word_byte b is.0, is.1)
 
--- a refusal that names this table, if any, names no other
-IsPlainRefusal-naming : (name : List ℕ) (refusal : Refusal) → IsOneLine name → IsNaming name refusal
-    → IsPlainRefusal refusal
-IsPlainRefusal-naming name (refusals.Syntax at) plain is = tt
-IsPlainRefusal-naming name (refusals.Limit limit) plain is = tt
-IsPlainRefusal-naming name (refusals.UnknownTable other) plain is = subst IsOneLine (sym is) plain
-IsPlainRefusal-naming name (refusals.TableExists other) plain is = subst IsOneLine (sym is) plain
-IsPlainRefusal-naming name refusals.NotBuilt plain is = tt
-IsPlainRefusal-naming name refusals.NoMemory plain is = tt
+-- none in any of these
+AreOneLines : (names : List Name) → AreWords names → AllByRecursion IsOneLine names
+AreOneLines [] words = tt
+AreOneLines (name ∷ more) words = (IsOneLine-word name words.0, AreOneLines more words.1)
+
+-- so a refusal that gives such a name is plain
+IsPlainRefusal-from : (refusal : Refusal) → Names IsOneLine refusal → IsPlainRefusal refusal
+IsPlainRefusal-from (refusals.Syntax at) names = tt
+IsPlainRefusal-from (refusals.Limit limit) names = tt
+IsPlainRefusal-from (refusals.UnknownTable name) names = names
+IsPlainRefusal-from (refusals.TableExists name) names = names
+IsPlainRefusal-from (refusals.DuplicateColumn name) names = names
+IsPlainRefusal-from (refusals.UnknownIdentifier name) names = names
+IsPlainRefusal-from refusals.TypeMismatch names = tt
+IsPlainRefusal-from refusals.NotAnAggregate names = tt
+IsPlainRefusal-from refusals.NotBuilt names = tt
+IsPlainRefusal-from refusals.NoMemory names = tt
 
 -- a body that can't be read is refused without a name
 IsPlainRefusal-unreadable : (body : List ℕ) (refusal : Refusal) → IsUnreadable body refusal
@@ -51,6 +62,10 @@ IsPlainRefusal-unreadable body (refusals.Syntax at) is = tt
 IsPlainRefusal-unreadable body (refusals.Limit limit) is = tt
 IsPlainRefusal-unreadable body (refusals.UnknownTable name) is = absurd is
 IsPlainRefusal-unreadable body (refusals.TableExists name) is = absurd is
+IsPlainRefusal-unreadable body (refusals.DuplicateColumn name) is = absurd is
+IsPlainRefusal-unreadable body (refusals.UnknownIdentifier name) is = absurd is
+IsPlainRefusal-unreadable body refusals.TypeMismatch is = tt
+IsPlainRefusal-unreadable body refusals.NotAnAggregate is = tt
 IsPlainRefusal-unreadable body refusals.NotBuilt is = tt
 IsPlainRefusal-unreadable body refusals.NoMemory is = tt
 
@@ -59,12 +74,10 @@ IsPlainRefusal-body : (tables : List Table) (body : List ℕ) (refusal : Refusal
     → BodyIsRefused tables body refusal
     → IsPlainRefusal refusal
 IsPlainRefusal-body tables body refusal (inl unreadable) = IsPlainRefusal-unreadable body refusal unreadable
-IsPlainRefusal-body tables body refusal (inr (statement, reads, inl other)) =
-    subst IsPlainRefusal (sym other.0) tt
-IsPlainRefusal-body tables body refusal (inr (statement, reads, inr by)) =
-    IsPlainRefusal-naming (name_of statement) refusal
-    (IsOneLine-word (name_of statement) (IsWord-name body statement reads by.0))
-    (IsRefusal-names tables statement refusal (inr by))
+IsPlainRefusal-body tables body refusal (inr (statement, reads, is)) =
+    IsPlainRefusal-from refusal
+    (IsRefusal-names IsOneLine tables statement refusal
+    (AreOneLines (names_of statement) (IsOfWords-body body statement reads)) is)
 
 -- a bound statement's reply gives no name
 IsPlain-bound : (place : List Entry) (said : Said) (bound : Bound) (added : List Entry) (reply : Reply)

@@ -12,10 +12,10 @@ use Rattle.pj_lex.specs.Bytes.{is_small, AllAre}
 use Rattle.pj_parse.specs.Lines.{IsName, is_name_byte}
 use Rattle.pj_legal.specs.declared.reply.Reply.{Reply}
 use Rattle.pj_legal.specs.declared.reply.Reply.TheVariants as replies
-use Rattle.pj_legal.specs.declared.types.LimitName.{LimitName}
-use Rattle.pj_legal.specs.declared.types.LimitName.TheVariants as limits
-use Rattle.pj_legal.specs.declared.types.Refusal.{Refusal}
-use Rattle.pj_legal.specs.declared.types.Refusal.TheVariants as refusals
+use Rattle.pj_bind.specs.declared.types.LimitName.{LimitName}
+use Rattle.pj_bind.specs.declared.types.LimitName.TheVariants as limits
+use Rattle.pj_bind.specs.declared.types.Refusal.{Refusal}
+use Rattle.pj_bind.specs.declared.types.Refusal.TheVariants as refusals
 use Rattle.pj_legal.specs.Legal.{Said}
 use Rattle.pj_legal.specs.Texts.{texts_of, reply_text, limit_text, refusal_text}
 use Rattle.pj_legal.specs.Texts.{name_at, announced, following, as_line}
@@ -105,11 +105,19 @@ IsFree-refusal (refusals.Syntax at) plain =
     IsFree-append 10 (codes "SYNTAX_ERROR ") (decimal at) (omega arith) (IsFree-decimal 10 at (omega arith))
 IsFree-refusal (refusals.Limit limits.Tokens) plain = omega arith
 IsFree-refusal (refusals.Limit limits.Text) plain = omega arith
+IsFree-refusal (refusals.Limit limits.Tables) plain = omega arith
+IsFree-refusal (refusals.Limit limits.Columns) plain = omega arith
 IsFree-refusal (refusals.Limit limits.History) plain = omega arith
 IsFree-refusal (refusals.UnknownTable name) plain =
     IsFree-append 10 (codes "UNKNOWN_TABLE ") name (omega arith) (IsFree-from 10 name plain)
 IsFree-refusal (refusals.TableExists name) plain =
     IsFree-append 10 (codes "TABLE_ALREADY_EXISTS ") name (omega arith) (IsFree-from 10 name plain)
+IsFree-refusal (refusals.DuplicateColumn name) plain =
+    IsFree-append 10 (codes "DUPLICATE_COLUMN ") name (omega arith) (IsFree-from 10 name plain)
+IsFree-refusal (refusals.UnknownIdentifier name) plain =
+    IsFree-append 10 (codes "UNKNOWN_IDENTIFIER ") name (omega arith) (IsFree-from 10 name plain)
+IsFree-refusal refusals.TypeMismatch plain = omega arith
+IsFree-refusal refusals.NotAnAggregate plain = omega arith
 IsFree-refusal refusals.NotBuilt plain = omega arith
 IsFree-refusal refusals.NoMemory plain = omega arith
 
@@ -157,16 +165,18 @@ reply_text-same l m a b r s more others few many first other same =
     behind_number : List ℕ → Reply → List ℕ → List ℕ
     behind_number name reply text = name ++ (32 ∷ behind_name reply text)
 
--- a number that the first and the third byte make, another for each kind of reply
+-- a number that the first and the fifth byte make, another for each kind of reply, unknown names aside
 abbrev tag : List ℕ → ℕ
-tag text = slice_index text 0 + slice_index text 2
+tag text = slice_index text 0 + slice_index text 4
 
--- the name of a limit tells it, by its second byte
+-- the name of a limit tells it, by its third byte
 limit_text-same : (limit other : LimitName) → limit_text limit ≡ limit_text other → limit ≡ other
 limit_text-same limits.Tokens limits.Tokens same = refl
 limit_text-same limits.Text limits.Text same = refl
+limit_text-same limits.Tables limits.Tables same = refl
+limit_text-same limits.Columns limits.Columns same = refl
 limit_text-same limits.History limits.History same = refl
-limit_text-same limit other same = absurd (omega (arith, ap (λ text. slice_index text 1) same))
+limit_text-same limit other same = absurd (omega (arith, ap (λ text. slice_index text 2) same))
 
 -- what a refusal says tells it
 refusal_text-same : (refusal other : Refusal) → HasSmallPlace refusal → HasSmallPlace other
@@ -179,19 +189,33 @@ refusal_text-same (refusals.Limit limit) (refusals.Limit other) few many same =
     ap refusals.Limit (limit_text-same limit other names)
 refusal_text-same (refusals.UnknownTable name) (refusals.UnknownTable other) few many same =
     ap refusals.UnknownTable (append_cancel_left (codes "UNKNOWN_TABLE ") name other same)
+refusal_text-same (refusals.UnknownTable name) (refusals.UnknownIdentifier other) few many same =
+    absurd (omega (arith, ap (λ text. slice_index text 8) same))
+refusal_text-same (refusals.UnknownIdentifier name) (refusals.UnknownTable other) few many same =
+    absurd (omega (arith, ap (λ text. slice_index text 8) same))
 refusal_text-same (refusals.TableExists name) (refusals.TableExists other) few many same =
     ap refusals.TableExists (append_cancel_left (codes "TABLE_ALREADY_EXISTS ") name other same)
+refusal_text-same (refusals.DuplicateColumn name) (refusals.DuplicateColumn other) few many same =
+    ap refusals.DuplicateColumn (append_cancel_left (codes "DUPLICATE_COLUMN ") name other same)
+refusal_text-same (refusals.UnknownIdentifier name) (refusals.UnknownIdentifier other) few many same =
+    ap refusals.UnknownIdentifier (append_cancel_left (codes "UNKNOWN_IDENTIFIER ") name other same)
+refusal_text-same refusals.TypeMismatch refusals.TypeMismatch few many same = refl
+refusal_text-same refusals.NotAnAggregate refusals.NotAnAggregate few many same = refl
 refusal_text-same refusals.NotBuilt refusals.NotBuilt few many same = refl
 refusal_text-same refusals.NoMemory refusals.NoMemory few many same = refl
 refusal_text-same refusal other few many same = absurd (omega (arith, ap tag same))
 
 -- a refusal says neither `ok` nor `rows`
 refusal_text-tag : (refusal : Refusal)
-    → (tag (refusal_text refusal) ≡ 111 → ⊥) × (tag (refusal_text refusal) ≡ 233 → ⊥)
+    → (tag (refusal_text refusal) ≡ 111 → ⊥) × (tag (refusal_text refusal) ≡ 146 → ⊥)
 refusal_text-tag (refusals.Syntax at) = omega arith
 refusal_text-tag (refusals.Limit limit) = omega arith
 refusal_text-tag (refusals.UnknownTable name) = omega arith
 refusal_text-tag (refusals.TableExists name) = omega arith
+refusal_text-tag (refusals.DuplicateColumn name) = omega arith
+refusal_text-tag (refusals.UnknownIdentifier name) = omega arith
+refusal_text-tag refusals.TypeMismatch = omega arith
+refusal_text-tag refusals.NotAnAggregate = omega arith
 refusal_text-tag refusals.NotBuilt = omega arith
 refusal_text-tag refusals.NoMemory = omega arith
 

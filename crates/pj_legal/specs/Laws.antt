@@ -9,19 +9,21 @@ use Rattle.pj_parse.specs.declared.types.Statement.{Statement}
 use Rattle.pj_parse.specs.Lines.{IsName}
 use Rattle.pj_parse.specs.StatementLaws.{OneStatement, OnePlace}
 use Rattle.pj_journal.specs.declared.entry.Entry.{Entry}
-use Rattle.pj_journal.specs.declared.table.Table.{Table}
+use Rattle.pj_expr.specs.declared.table.Table.{Table}
 use Rattle.pj_journal.specs.History.{IsRegular, catalog}
 use Rattle.pj_legal.specs.declared.reply.Reply.{Reply}
 use Rattle.pj_legal.specs.declared.reply.Reply.TheVariants as replies
-use Rattle.pj_legal.specs.declared.types.Bound.{Bound}
-use Rattle.pj_legal.specs.declared.types.LimitName.TheVariants.{History}
-use Rattle.pj_legal.specs.declared.types.Refusal.{Refusal}
-use Rattle.pj_legal.specs.declared.types.Refusal.TheVariants.{Syntax, Limit, UnknownTable, TableExists}
-use Rattle.pj_legal.specs.declared.types.Refusal.TheVariants.{NotBuilt, NoMemory}
+use Rattle.pj_bind.specs.declared.types.Bound.{Bound}
+use Rattle.pj_bind.specs.declared.types.LimitName.TheVariants.{History}
+use Rattle.pj_bind.specs.declared.types.Refusal.{Refusal}
+use Rattle.pj_bind.specs.declared.types.Refusal.TheVariants.{Syntax, Limit, UnknownTable, TableExists}
+use Rattle.pj_bind.specs.declared.types.Refusal.TheVariants.{DuplicateColumn, UnknownIdentifier, TypeMismatch}
+use Rattle.pj_bind.specs.declared.types.Refusal.TheVariants.{NotAnAggregate, NotBuilt, NoMemory}
+use Rattle.pj_bind.specs.Laws.{HasUniqueNames}
 use Rattle.pj_legal.specs.Legal.{Said, statements, Form, IsLegal}
 use Rattle.pj_legal.specs.Run.{Run, LinesRise, cut}
 use Rattle.pj_legal.specs.Texts.{texts_of, reply_text, announced, name_at}
-use Rattle.pj_legal.specs.Binding.{BodyReads, IsBuilt, IsBound, IsRefusal, BodyBinds, BodyIsRefused}
+use Rattle.pj_legal.specs.Binding.{BodyReads, BodyBinds, BodyIsRefused}
 
 -- a run of a script's first statements leaves a legal history of the script that has no other lines
 abbrev pub CutRunsAreLegal : Type 0
@@ -68,28 +70,9 @@ TextsGoOn =
     → texts_of names (saids ++ said ∷ []) (replies ++ reply ∷ [])
     ≡ texts_of names saids replies ++ reply_text said.line (name_at names said.session) reply
 
--- no two of the tables have one name
-abbrev pub HasUniqueNames : List Table → Type 0
-HasUniqueNames tables =
-    (i j : ℕ) (a b : Table) → slice_get tables i ≡ Some a → slice_get tables j ≡ Some b → a.name ≡ b.name
-    → i ≡ j
-
 -- the catalog of a regular history has no two tables of one name
 abbrev pub NamesAreUnique : Type 0
 NamesAreUnique = (h : List Entry) → IsRegular h → HasUniqueNames (catalog h)
-
--- where no two tables have one name, what binds isn't refused
-abbrev pub BoundOrRefused : Type 0
-BoundOrRefused =
-    (tables : List Table) (statement : Statement) (bound : Bound) (refusal : Refusal) → HasUniqueNames tables
-    → IsBuilt statement
-    → IsBound tables statement bound → IsRefusal tables statement refusal → ⊥
-
--- a statement is refused in one way at most
-abbrev pub OneRefusal : Type 0
-OneRefusal =
-    (tables : List Table) (statement : Statement) (a b : Refusal) → IsRefusal tables statement a
-    → IsRefusal tables statement b → a ≡ b
 
 -- the laws of tokens and of the grammar, by which a body has one meaning
 pub record HasOneMeaning : Type 0 where
@@ -109,11 +92,11 @@ BodyBoundOrRefused =
     (tables : List Table) (body : List ℕ) (bound : Bound) (refusal : Refusal) → HasUniqueNames tables
     → BodyBinds tables body bound → BodyIsRefused tables body refusal → ⊥
 
--- a body is refused in one way at most
+-- where no two tables have one name, a body is refused in one way at most
 abbrev pub OneBodyRefusal : Type 0
 OneBodyRefusal =
-    (tables : List Table) (body : List ℕ) (a b : Refusal) → BodyIsRefused tables body a
-    → BodyIsRefused tables body b → a ≡ b
+    (tables : List Table) (body : List ℕ) (a b : Refusal) → HasUniqueNames tables
+    → BodyIsRefused tables body a → BodyIsRefused tables body b → a ≡ b
 
 -- numbers of one text in decimal are one
 abbrev pub TextsTellNumbers : Type 0
@@ -129,6 +112,10 @@ IsPlainRefusal (Syntax at) = Unit {0}
 IsPlainRefusal (Limit limit) = Unit {0}
 IsPlainRefusal (UnknownTable name) = IsOneLine name
 IsPlainRefusal (TableExists name) = IsOneLine name
+IsPlainRefusal (DuplicateColumn name) = IsOneLine name
+IsPlainRefusal (UnknownIdentifier name) = IsOneLine name
+IsPlainRefusal TypeMismatch = Unit {0}
+IsPlainRefusal NotAnAggregate = Unit {0}
 IsPlainRefusal NotBuilt = Unit {0}
 IsPlainRefusal NoMemory = Unit {0}
 
@@ -158,6 +145,10 @@ HasSmallPlace (Syntax at) = at < 2 ^ 64
 HasSmallPlace (Limit limit) = Unit {0}
 HasSmallPlace (UnknownTable name) = Unit {0}
 HasSmallPlace (TableExists name) = Unit {0}
+HasSmallPlace (DuplicateColumn name) = Unit {0}
+HasSmallPlace (UnknownIdentifier name) = Unit {0}
+HasSmallPlace TypeMismatch = Unit {0}
+HasSmallPlace NotAnAggregate = Unit {0}
 HasSmallPlace NotBuilt = Unit {0}
 HasSmallPlace NoMemory = Unit {0}
 

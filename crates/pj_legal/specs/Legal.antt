@@ -11,14 +11,14 @@ use Rattle.pj_journal.specs.declared.entry.Actor.TheVariants.{Session}
 use Rattle.pj_journal.specs.declared.entry.What.{What}
 use Rattle.pj_journal.specs.declared.entry.What.TheVariants as whats
 use Rattle.pj_journal.specs.declared.entry.Entry.{Entry}
-use Rattle.pj_journal.specs.History.{catalog, rows, IsRegular}
-use Rattle.pj_legal.specs.declared.types.Bound.{Bound}
-use Rattle.pj_legal.specs.declared.types.Bound.TheVariants as bounds
-use Rattle.pj_legal.specs.declared.types.LimitName.TheVariants.{History}
-use Rattle.pj_legal.specs.declared.types.Refusal.TheVariants as refusals
+use Rattle.pj_journal.specs.History.{catalog, table_rows, IsRegular}
+use Rattle.pj_bind.specs.declared.types.Bound.{Bound}
+use Rattle.pj_bind.specs.declared.types.Bound.TheVariants as bounds
+use Rattle.pj_bind.specs.declared.types.LimitName.TheVariants.{History}
+use Rattle.pj_bind.specs.declared.types.Refusal.TheVariants as refusals
 use Rattle.pj_legal.specs.declared.reply.Reply.{Reply}
 use Rattle.pj_legal.specs.declared.reply.Reply.TheVariants as replies
-use Rattle.pj_legal.specs.Answers.{Answers}
+use Rattle.pj_expr.specs.Answers.{Answers}
 use Rattle.pj_legal.specs.Binding.{BodyBinds, BodyIsRefused}
 
 -- a statement of the script: its line, its session, and its body
@@ -52,7 +52,7 @@ BoundForm place said (bounds.Insert table rows) added reply =
     × (added ≡ entry_of said (whats.Begun table) ∷ entry_of said (whats.Inserted table block rows) ∷ [])
     × (reply ≡ replies.Done)
 BoundForm place said (bounds.Select table query) added reply =
-    (out : KindedRows) × Answers query (rows place table) out
+    (out : KindedRows) × Answers query (table_rows place table) out
     × (added ≡ entry_of said (whats.Looked table) ∷ []) × (reply ≡ replies.Rows out)
 
 -- the statement ended with its first move alone

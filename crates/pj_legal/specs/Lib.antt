@@ -1,4 +1,3 @@
-pub mod Answers
 pub mod Binding
 pub mod Faults
 pub mod Laws
@@ -8,7 +7,12 @@ pub mod Texts
 pub use Rattle.pj_value.specs.Values
 pub use Rattle.pj_value.specs.Rows
 pub use Rattle.pj_value.specs.Escaping
+pub use Rattle.pj_expr.specs.Tables
 pub use Rattle.pj_journal.specs.History
+pub use Rattle.pj_expr.specs.Answers
+pub use Rattle.pj_bind.specs.Built
+pub use Rattle.pj_bind.specs.Binding as StatementBinding
+pub use Rattle.pj_bind.specs.Laws as BindingLaws
 pub use Rattle.pj_journal.specs.Log
 pub use Rattle.pj_lex.specs.Tokens
 pub use Rattle.pj_parse.specs.GrammarStatements

@@ -11,11 +11,12 @@ use Rattle.pj_journal.specs.declared.entry.Actor.TheVariants.{Session}
 use Rattle.pj_journal.specs.declared.entry.What.{What}
 use Rattle.pj_journal.specs.declared.entry.What.TheVariants as whats
 use Rattle.pj_journal.specs.declared.entry.Entry.{Entry}
-use Rattle.pj_journal.specs.History.{catalog, names}
-use Rattle.pj_legal.specs.declared.types.LimitName.{LimitName}
-use Rattle.pj_legal.specs.declared.types.LimitName.TheVariants as limits
-use Rattle.pj_legal.specs.declared.types.Refusal.{Refusal}
-use Rattle.pj_legal.specs.declared.types.Refusal.TheVariants as refusals
+use Rattle.pj_journal.specs.History.{catalog}
+use Rattle.pj_expr.specs.Tables.{names}
+use Rattle.pj_bind.specs.declared.types.LimitName.{LimitName}
+use Rattle.pj_bind.specs.declared.types.LimitName.TheVariants as limits
+use Rattle.pj_bind.specs.declared.types.Refusal.{Refusal}
+use Rattle.pj_bind.specs.declared.types.Refusal.TheVariants as refusals
 use Rattle.pj_legal.specs.declared.reply.Reply.{Reply}
 use Rattle.pj_legal.specs.declared.reply.Reply.TheVariants as replies
 use Rattle.pj_legal.specs.Legal.{Said, statements}
@@ -33,6 +34,8 @@ row_text row = join_with_byte 9 (map value_text row)
 abbrev pub limit_text : LimitName → List ℕ
 limit_text limits.Tokens = codes "TOKENS"
 limit_text limits.Text = codes "TEXT"
+limit_text limits.Tables = codes "TABLES"
+limit_text limits.Columns = codes "COLUMNS"
 limit_text limits.History = codes "HISTORY"
 
 -- a refusal
@@ -41,6 +44,10 @@ refusal_text (refusals.Syntax at) = codes "SYNTAX_ERROR " ++ decimal at
 refusal_text (refusals.Limit limit) = codes "LIMIT " ++ limit_text limit
 refusal_text (refusals.UnknownTable name) = codes "UNKNOWN_TABLE " ++ name
 refusal_text (refusals.TableExists name) = codes "TABLE_ALREADY_EXISTS " ++ name
+refusal_text (refusals.DuplicateColumn name) = codes "DUPLICATE_COLUMN " ++ name
+refusal_text (refusals.UnknownIdentifier name) = codes "UNKNOWN_IDENTIFIER " ++ name
+refusal_text refusals.TypeMismatch = codes "TYPE_MISMATCH"
+refusal_text refusals.NotAnAggregate = codes "NOT_AN_AGGREGATE"
 refusal_text refusals.NotBuilt = codes "NOT_BUILT"
 refusal_text refusals.NoMemory = codes "NO_MEMORY"
 

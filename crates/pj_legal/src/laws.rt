@@ -1,6 +1,6 @@
 //! Laws over the definitions of this crate. Each function does nothing: its clause is the law.
 ghost use Rattle.pj_legal.specs.Laws.{CutRunsAreLegal, FullRefusesAll, RunGoesOn, RunIsAsLong};
-ghost use Rattle.pj_legal.specs.Laws.{TextsGoOn, NamesAreUnique, BoundOrRefused, OneRefusal};
+ghost use Rattle.pj_legal.specs.Laws.{TextsGoOn, NamesAreUnique};
 ghost use Rattle.pj_legal.specs.Laws.{OneBodyReading, BodyBoundOrRefused, OneBodyRefusal};
 ghost use Rattle.pj_legal.specs.Laws.{TextsTellNumbers, LegalRepliesArePlain};
 ghost use Rattle.pj_legal.specs.Laws.{RepliesAreToldApart, AnnouncementsAreToldApart};
@@ -45,18 +45,6 @@ pub fn names_are_unique()
     ensures { NamesAreUnique }
 {}
 
-/// A statement of a built form that binds isn't refused. The names must be unique: of two tables with one
-/// name the rows of an INSERT
-/// might fit the first alone.
-pub fn bound_or_refused()
-    ensures { BoundOrRefused }
-{}
-
-/// A statement is refused in one way at most, whatever the names of the tables are.
-pub fn one_refusal()
-    ensures { OneRefusal }
-{}
-
 /// A body is read as one statement at most.
 pub fn one_body_reading()
     ensures { OneBodyReading }
@@ -67,7 +55,7 @@ pub fn body_bound_or_refused()
     ensures { BodyBoundOrRefused }
 {}
 
-/// A body is refused in one way at most: with one cause, and at one place.
+/// A body is refused in one way at most, with one cause and at one place, where no two tables have one name.
 pub fn one_body_refusal()
     ensures { OneBodyRefusal }
 {}

@@ -41,7 +41,7 @@ fn read_tokens(alloc: Global, body: &[u8], tokens: &[Token]) -> Result<Parsed, N
 {
     match statement(alloc, body, tokens) {
         Ok(statement) => {
-            if has_long_text(tokens) {
+            if has_long_text(body, tokens) {
                 Ok(Parsed::Refused(Refusal::Limit(LimitName::Text)))
             } else {
                 Ok(Parsed::Statement(statement))
@@ -53,7 +53,15 @@ fn read_tokens(alloc: Global, body: &[u8], tokens: &[Token]) -> Result<Parsed, N
     }
 }
 
-fn has_long_text(tokens: &[Token]) -> bool
+/// Whether one of the body's texts is too long. No text is longer than the body.
+fn has_long_text(body: &[u8], tokens: &[Token]) -> bool
+    requires { AreTokens body.now tokens.now }
+    ensures { IsTrue result ↔ HasLongText tokens.now }
+{
+    body.len() > TEXT && any_long_text(tokens)
+}
+
+fn any_long_text(tokens: &[Token]) -> bool
     ensures { IsTrue result ↔ HasLongText tokens.now }
 {
     tokens.iter().any(is_long_text)

@@ -1,6 +1,7 @@
 //! What no clause says: that calls succeed where memory is ample, and worked texts.
 use super::*;
 use crate::types::{LimitName, Refusal};
+use pj_expr::{ColumnDef, LightMode, Table};
 use pj_journal::types::Catalog;
 use pj_journal::{Actor, Entry, Journal, What};
 use pj_parse::types::{Act, Script, ScriptLine, Statement};
@@ -8,22 +9,48 @@ use pj_value::{Kind, List, NoMemory, Rows, Text, Value};
 use std::alloc::Global;
 use std::test::Fail;
 
-/// The reply to a statement where there are no tables, `Done` where it binds.
-fn bound_reply(alloc: Global, statement: &Statement) -> Result<Reply, NoMemory> {
-    let tables = Catalog::new(alloc);
-    match bind(alloc, statement, &tables) {
+/// The reply to a statement for these tables, `Done` where it binds.
+fn bound_reply(alloc: Global, statement: &Statement, tables: &Catalog) -> Result<Reply, NoMemory> {
+    match bind(alloc, statement, tables) {
         Ok(_bound) => Ok(Reply::Done),
         Err(BindFault::Refused(refusal)) => Ok(Reply::Refused(refusal)),
         Err(BindFault::NoMemory) => Err(NoMemory),
     }
 }
 
-fn reply_to(alloc: Global, body: &[u8]) -> Result<Reply, NoMemory> {
+fn reply_to(alloc: Global, body: &[u8], tables: &Catalog) -> Result<Reply, NoMemory> {
     let parsed = read_statement(alloc, body)?;
     match parsed {
         Parsed::Refused(refusal) => Ok(Reply::Refused(refusal)),
-        Parsed::Statement(statement) => bound_reply(alloc, &statement),
+        Parsed::Statement(statement) => bound_reply(alloc, &statement, tables),
     }
+}
+
+/// A column of a table.
+fn column(alloc: Global, name: &[u8], kind: Kind) -> Result<ColumnDef, NoMemory> {
+    let name = Text::new(alloc, name)?;
+    Ok(ColumnDef { name, kind })
+}
+
+/// The table t of a number k, its key, and a text s.
+fn table(alloc: Global) -> Result<Table, NoMemory> {
+    let mut columns = Vec::new(alloc);
+    columns.push(column(alloc, b"k", Kind::Num)?)?;
+    columns.push(column(alloc, b"s", Kind::Text)?)?;
+    Ok(Table {
+        name: Text::new(alloc, b"t")?,
+        columns: List::from_vec(columns),
+        key: List::from_vec(vec![in alloc; 0usize]?),
+        granularity: 8192,
+        mode: LightMode::Throw,
+    })
+}
+
+/// This table alone.
+fn one_table(alloc: Global) -> Result<Catalog, NoMemory> {
+    let mut tables = Catalog::new(alloc);
+    tables.add(table(alloc)?)?;
+    Ok(tables)
 }
 
 /// Whether the line of a reply is this one.
@@ -33,14 +60,15 @@ fn is_line(alloc: Global, reply: &Reply, line: &str) -> Result<bool, NoMemory> {
     Ok(text.as_slice() == line.as_bytes())
 }
 
-/// Whether the body has the reply of this line.
-fn is_told(alloc: Global, body: &[u8], line: &str) -> Result<bool, NoMemory> {
-    let reply = reply_to(alloc, body)?;
+/// Whether the body has the reply of this line, for these tables.
+fn is_told(alloc: Global, body: &[u8], tables: &Catalog, line: &str) -> Result<bool, NoMemory> {
+    let reply = reply_to(alloc, body, tables)?;
     is_line(alloc, &reply, line)
 }
 
 #[test]
 fn a_body_binds_or_has_its_first_refusal(rt: HostRuntime) -> Result<(), Fail> {
+    let none = Catalog::new(rt.alloc());
     for (body, told) in [
         (
             "CREATE TABLE t (x UInt64) ENGINE = MergeTree ORDER BY x",
@@ -52,27 +80,65 @@ fn a_body_binds_or_has_its_first_refusal(rt: HostRuntime) -> Result<(), Fail> {
         ),
         (
             "CREATE TABLE t (x UInt64) ENGINE = MergeTree ORDER BY y",
-            "1 a NOT_BUILT\n",
+            "1 a UNKNOWN_IDENTIFIER y\n",
+        ),
+        (
+            "CREATE TABLE t (x UInt64, x String) ENGINE = MergeTree ORDER BY y",
+            "1 a DUPLICATE_COLUMN x\n",
         ),
         ("SELECT count(*) FROM u", "1 a UNKNOWN_TABLE u\n"),
         ("INSERT INTO u VALUES (1)", "1 a UNKNOWN_TABLE u\n"),
-        ("INSERT INTO u VALUES ('x')", "1 a NOT_BUILT\n"),
-        ("SELECT x FROM u", "1 a NOT_BUILT\n"),
+        ("SELECT x FROM u GROUP BY x", "1 a NOT_BUILT\n"),
         ("OPTIMIZE TABLE u FINAL", "1 a NOT_BUILT\n"),
         ("SELECT count() FROM", "1 a SYNTAX_ERROR 19\n"),
         ("SELECT , FROM u", "1 a SYNTAX_ERROR 7\n"),
         ("SELECT 'x FROM u", "1 a SYNTAX_ERROR 7\n"),
     ] {
-        assert!(rt; is_told(rt.alloc(), body.as_bytes(), told)?, "{body}");
+        assert!(rt;
+            is_told(rt.alloc(), body.as_bytes(), &none, told)?,
+            "{body}"
+        );
     }
     Ok(())
 }
 
-/// A body with `count` times this byte between its front and its end.
-fn filled(alloc: Global, front: &str, byte: u8, count: usize, end: &str) -> Result<Text, NoMemory> {
+#[test]
+fn a_table_refuses_by_its_columns(rt: HostRuntime) -> Result<(), Fail> {
+    let tables = one_table(rt.alloc())?;
+    for (body, told) in [
+        (
+            "CREATE TABLE t (k UInt64, s String) ENGINE = MergeTree ORDER BY k",
+            "1 a TABLE_ALREADY_EXISTS t\n",
+        ),
+        ("SELECT k, s FROM t", "1 a ok\n"),
+        ("SELECT k + x FROM t", "1 a UNKNOWN_IDENTIFIER x\n"),
+        ("SELECT k FROM t WHERE s", "1 a TYPE_MISMATCH\n"),
+        ("SELECT k, count() FROM t", "1 a NOT_AN_AGGREGATE\n"),
+        (
+            "INSERT INTO t (s, s) VALUES (1, 2)",
+            "1 a DUPLICATE_COLUMN s\n",
+        ),
+        ("INSERT INTO t VALUES ('x', 1)", "1 a TYPE_MISMATCH\n"),
+    ] {
+        assert!(rt;
+            is_told(rt.alloc(), body.as_bytes(), &tables, told)?,
+            "{body}"
+        );
+    }
+    Ok(())
+}
+
+/// A body with `count` times this piece between its front and its end.
+fn filled(
+    alloc: Global,
+    front: &str,
+    piece: &str,
+    count: usize,
+    end: &str,
+) -> Result<Text, NoMemory> {
     let mut body = Vec::from_slice(alloc, front.as_bytes())?;
     for _ in 0..count {
-        body.push(byte)?;
+        body.extend_from_slice(piece.as_bytes())?;
     }
     body.extend_from_slice(end.as_bytes())?;
     Ok(Text::from_vec(body))
@@ -80,29 +146,53 @@ fn filled(alloc: Global, front: &str, byte: u8, count: usize, end: &str) -> Resu
 
 #[test]
 fn the_first_limit_is_told(rt: HostRuntime) -> Result<(), Fail> {
-    for (front, byte, count, end, told) in [
-        ("SELECT '", b'x', 65_535usize, "' FROM u", "1 a NOT_BUILT\n"),
-        ("SELECT '", b'x', 65_536, "' FROM u", "1 a LIMIT TEXT\n"),
+    let none = Catalog::new(rt.alloc());
+    for (front, piece, count, end, told) in [
+        (
+            "SELECT '",
+            "x",
+            65_535usize,
+            "' FROM u",
+            "1 a UNKNOWN_TABLE u\n",
+        ),
+        ("SELECT '", "x", 65_536, "' FROM u", "1 a LIMIT TEXT\n"),
         (
             "SELECT ('",
-            b'x',
+            "x",
             65_536,
             "' FROM u",
             "1 a SYNTAX_ERROR 65547\n",
         ),
-        ("", b'(', 1_024, "", "1 a SYNTAX_ERROR 0\n"),
-        ("", b'(', 1_025, "", "1 a LIMIT TOKENS\n"),
-        ("", b'(', 1_025, "'", "1 a SYNTAX_ERROR 1025\n"),
+        ("", "(", 1_024, "", "1 a SYNTAX_ERROR 0\n"),
+        ("", "(", 1_025, "", "1 a LIMIT TOKENS\n"),
+        ("", "(", 1_025, "'", "1 a SYNTAX_ERROR 1025\n"),
         (
             "INSERT INTO u VALUES (1)",
-            b';',
+            ";",
             1_025,
             "",
             "1 a SYNTAX_ERROR 25\n",
         ),
+        (
+            "CREATE TABLE t (x UInt64",
+            ", x String",
+            63,
+            ") ENGINE = MergeTree ORDER BY x",
+            "1 a DUPLICATE_COLUMN x\n",
+        ),
+        (
+            "CREATE TABLE t (x UInt64",
+            ", x String",
+            64,
+            ") ENGINE = MergeTree ORDER BY x",
+            "1 a LIMIT COLUMNS\n",
+        ),
     ] {
-        let body = filled(rt.alloc(), front, byte, count, end)?;
-        assert!(rt; is_told(rt.alloc(), body.as_slice(), told)?, "{told}");
+        let body = filled(rt.alloc(), front, piece, count, end)?;
+        assert!(rt;
+            is_told(rt.alloc(), body.as_slice(), &none, told)?,
+            "{told}"
+        );
     }
     Ok(())
 }

@@ -7,7 +7,7 @@ use Rattle.std.proofs.lemmas.List.Concat.{flat_map-append}
 use Rattle.std.proofs.lemmas.Bool.{eq-eqb, ne_eqb}
 use Rattle.pj_value.specs.declared.value.Value.{Value}
 use Rattle.pj_value.specs.Rows.{KindedRows}
-use Rattle.pj_journal.specs.declared.table.Table.{Table}
+use Rattle.pj_expr.specs.declared.table.Table.{Table}
 use Rattle.pj_journal.specs.declared.entry.What.{What}
 use Rattle.pj_journal.specs.declared.entry.What.TheVariants.{Created, Refused, Looked, Begun, Inserted}
 use Rattle.pj_journal.specs.declared.entry.Entry.{Entry}

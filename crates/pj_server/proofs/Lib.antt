@@ -3,4 +3,3 @@ pub mod StateLemmas
 pub mod StatusLemmas
 pub mod MoveLemmas
 pub mod PlayLemmas
-pub mod SelectLemmas

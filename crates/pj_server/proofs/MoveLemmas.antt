@@ -1,46 +1,78 @@
 -- From what a body means to what its moves are.
-use Rattle.std.proofs.Common.{◌≡◌, ℕ, ◌+◌, List, [], ◌∷◌, ◌++◌, length, Result, Ok, Err, refl}
+use Rattle.std.proofs.Common.{◌≡◌, ℕ, ◌+◌, List, [], ◌∷◌, ◌++◌, length, map, Option, Some, None}
+use Rattle.std.proofs.Common.{Result, Ok, Err, refl}
 use Rattle.std.proofs.Common.{sym, ap, subst, ◌∙◌, inl, inr, append_assoc, append-nil, arith}
 use Rattle.std.specs.Prelude.{IfOk, IfErr, OnOk}
-use Rattle.std.proofs.lemmas.Option.{slice_get_within}
+use Rattle.std.specs.List.{AllByRecursion}
 use Rattle.std.proofs.lemmas.List.{length_push}
 use Rattle.pj_value.specs.declared.value.Value.{Value}
-use Rattle.pj_value.specs.Rows.{KindedRows}
+use Rattle.pj_value.specs.Rows.{KindedRows, HaveKinds}
 use Rattle.pj_parse.specs.declared.types.Statement.{Statement}
 use Rattle.pj_parse.specs.declared.types.Statement.TheVariants as statements
-use Rattle.pj_journal.specs.declared.table.Table.{Table}
+use Rattle.pj_parse.specs.declared.types.TreeSelect.{TreeSelect}
+use Rattle.pj_expr.specs.declared.query.Query.{Query}
+use Rattle.pj_expr.specs.declared.table.ColumnDef.{ColumnDef}
+use Rattle.pj_expr.specs.declared.table.Table.{Table}
+use Rattle.pj_expr.specs.Tables.{kinds_of}
+use Rattle.pj_expr.specs.Fits.{FitsQuery}
 use Rattle.pj_journal.specs.declared.entry.What.{What}
 use Rattle.pj_journal.specs.declared.entry.What.TheVariants as whats
 use Rattle.pj_journal.specs.declared.entry.Entry.{Entry}
-use Rattle.pj_journal.specs.History.{catalog, rows}
+use Rattle.pj_journal.specs.History.{catalog, table_rows}
 use Rattle.pj_journal.specs.Log.{Log, IsFull}
-use Rattle.pj_legal.specs.declared.query.Query.{Query}
-use Rattle.pj_legal.specs.declared.types.Bound.{Bound}
-use Rattle.pj_legal.specs.declared.types.Bound.TheVariants as bounds
-use Rattle.pj_legal.specs.declared.types.LimitName.TheVariants.{History}
-use Rattle.pj_legal.specs.declared.types.Refusal.{Refusal}
-use Rattle.pj_legal.specs.declared.types.Refusal.TheVariants as refusals
-use Rattle.pj_legal.specs.declared.binding.BindFault.{BindFault}
-use Rattle.pj_legal.specs.declared.binding.BindFault.TheVariants as faults
+use Rattle.pj_bind.specs.declared.types.Bound.{Bound}
+use Rattle.pj_bind.specs.declared.types.Bound.TheVariants as bounds
+use Rattle.pj_bind.specs.declared.types.LimitName.TheVariants.{History}
+use Rattle.pj_bind.specs.declared.types.Refusal.{Refusal}
+use Rattle.pj_bind.specs.declared.types.Refusal.TheVariants as refusals
+use Rattle.pj_bind.specs.declared.binding.BindFault.{BindFault}
+use Rattle.pj_bind.specs.declared.binding.BindFault.TheVariants as faults
 use Rattle.pj_legal.specs.declared.reply.Reply.{Reply}
 use Rattle.pj_legal.specs.declared.reply.Reply.TheVariants as replies
-use Rattle.pj_legal.specs.Answers.{Answers}
-use Rattle.pj_legal.specs.Binding.{BodyReads, IsBuilt, IsBound, IsRefusal, BodyBinds, BodyIsRefused}
-use Rattle.pj_legal.specs.Faults.{IsBindFault}
+use Rattle.pj_expr.specs.Answers.{Answers}
+use Rattle.pj_bind.specs.Built.{IsBuilt}
+use Rattle.pj_bind.specs.Filling.{column_kinds, filled_row, FillsRow, FillColumns, filled_rows}
+use Rattle.pj_bind.specs.Binding.{Asks, IsBound, IsRefusal}
+use Rattle.pj_bind.specs.Faults.{IsBindFault}
+use Rattle.pj_legal.specs.Binding.{BodyReads, BodyBinds, BodyIsRefused}
 use Rattle.pj_legal.specs.Legal.{Said, entry_of, BoundForm, Form, StopsAfter, IsFirstMove, IsBegun}
 use Rattle.pj_server.specs.declared.server.By.{By}
 use Rattle.pj_server.specs.Moves.{said_by, Adds, BoundFits, BoundStops, BoundDone}
 use Rattle.pj_server.specs.Moves.{Does, Serves, ChangesNothing, IsReadFault}
 use Rattle.pj_server.proofs.HistoryLemmas.{catalog-push, catalog_on-nothing}
 
+-- the rows that fill columns have their kinds
+filled_kinds : (columns : List ColumnDef) (listed : Option (List (List ℕ))) (rows : List (List Value))
+    → FillColumns columns listed rows
+    → HaveKinds (column_kinds columns) (filled_rows columns listed rows)
+filled_kinds columns None rows fill = fill
+filled_kinds columns (Some names) rows fill = each rows fill
+  where
+    each : (rows : List (List Value)) → AllByRecursion (FillsRow columns names) rows
+        → HaveKinds (column_kinds columns) (map (filled_row columns names) rows)
+    each [] a = tt
+    each (row ∷ rows) a = (a.0.of_kinds, each rows a.1)
+
+-- the query that a SELECT asks for fits its table
+asks_fits : (table : Table) (select : TreeSelect) (query : Query) → Asks table select query
+    → FitsQuery (kinds_of table) query
+asks_fits table select query asks = record {
+  filter = asks.kinds.kept.filter;
+  items = asks.kinds.kept.items;
+  groups = asks.kinds.kept.groups;
+  order = asks.kinds.kept.order;
+  items_of_group = asks.groups.items;
+  order_of_group = asks.groups.order;
+}
+
 bound_fits : (tables : List Table) (statement : Statement) (bound : Bound) → IsBound tables statement bound
     → BoundFits tables bound
-bound_fits tables (statements.Create name columns projections key settings) bound (unknown, can, is) =
-    subst (BoundFits tables) (sym is) (unknown, can.room)
-bound_fits tables (statements.Insert name columns rows) bound (place, table, at, have, is) =
-    subst (BoundFits tables) (sym is) ((table, at.0, refl), have)
-bound_fits tables (statements.Select select) bound (place, table, at, is) =
-    subst (BoundFits tables) (sym is) (slice_get_within tables place table at.0)
+bound_fits tables (statements.Create name columns projections key settings) bound (can, is) =
+    subst (BoundFits tables) (sym is) (can.room.unknown, can.room.tables_left)
+bound_fits tables (statements.Insert name columns rows) bound (place, table, at, named, fill, is) =
+    subst (BoundFits tables) (sym is) ((table, at.0, refl), filled_kinds table.columns columns rows fill)
+bound_fits tables (statements.Select select) bound (place, table, at, (query, asks, is)) =
+    subst (BoundFits tables) (sym is) (table, at.0, asks_fits table select query asks)
 bound_fits tables (statements.Explain select) bound h = absurd h
 bound_fits tables (statements.Delete name filter sets) bound h = absurd h
 bound_fits tables (statements.Alter name action sets) bound h = absurd h
@@ -206,9 +238,8 @@ tables_stay a b c e nothing begun room =
     ap catalog (entries-nil b c room ∙ begun.grown) ∙ catalog-push a.entries e
     ∙ catalog_on-nothing (catalog a.entries) e.what nothing
 
-pub does_select : (a b : Log) (said : Said) (table : ℕ) (query : Query) (held : List (List Value))
-    (out : KindedRows)
-    → held ≡ rows a.entries table → Answers query held out
+pub does_select : (a b : Log) (said : Said) (table : ℕ) (query : Query) (held out : KindedRows)
+    → held ≡ table_rows a.entries table → Answers query held out
     → Adds a b (entry_of said (whats.Looked table) ∷ [])
     → Does a b said (bounds.Select table query) (replies.Rows out)
 does_select a b said table query held out same right adds = (

@@ -3,14 +3,16 @@ use Rattle.std.proofs.Common.{◌≡◌, ℕ, ◌+◌, ◌<◌, zero, suc, List,
 use Rattle.std.proofs.Common.{set, Option, Some, refl, sym, ap, subst, ◌∙◌, inl, inr, arith}
 use Rattle.std.specs.List.{slice_get, flat_map}
 use Rattle.std.proofs.lemmas.Bool.{cases_lt, cases_eq}
+use Rattle.std.proofs.lemmas.Option.{slice_get_within}
 use Rattle.std.proofs.lemmas.List.{get_or_append_left, get_or_push, length_push, length-set}
 use Rattle.std.proofs.lemmas.List.{get_or-set_same, get_or-set_other}
 use Rattle.pj_value.specs.Rows.{KindedRows, no_rows}
-use Rattle.pj_journal.specs.declared.table.Table.{Table}
+use Rattle.pj_expr.specs.declared.table.Table.{Table}
 use Rattle.pj_journal.specs.declared.entry.What.TheVariants.{Created, Inserted}
 use Rattle.pj_journal.specs.declared.entry.Entry.{Entry}
-use Rattle.pj_journal.specs.History.{catalog, catalog_on, blocks, blocks_on, rows}
-use Rattle.pj_journal.specs.History.{next, next_on, kinds_of, WhatFits, IsRegular}
+use Rattle.pj_journal.specs.History.{catalog, catalog_on, blocks, blocks_on, rows, kinds_at, table_rows}
+use Rattle.pj_journal.specs.History.{next, next_on, WhatFits, IsRegular}
+use Rattle.pj_expr.specs.Tables.{kinds_of}
 use Rattle.pj_server.specs.declared.store.Store.{Store}
 use Rattle.pj_server.specs.Store.{with_rows}
 use Rattle.pj_server.specs.State.{StoreStands, Stands}
@@ -159,3 +161,16 @@ Stands-inserted h e held stores t block rs d is fits there s =
             next-inserted_other h e k t block rs is apart ∙ none.1,
           );
     }
+
+-- the rows that a store holds of a table are those that a query of the table reads
+pub held_rows : (h : List Entry) (held : List Table) (stores : List Store) (t : ℕ) (store : Store)
+    (table : Table) → Stands h held stores → slice_get (catalog h) t ≡ Some table
+    → store ≡ get_or stores t store → store.rows ≡ table_rows h t
+held_rows h held stores t store table s at is =
+    let within : t < length (catalog h) = slice_get_within (catalog h) t table at in
+    let many : length held ≡ length (catalog h) = ap length s.tables in
+    let there : t < length stores = omega (arith, within, many, s.one_each) in
+    let one = s.each t store there in
+    let kinds : (get_or stores t store).rows.kinds ≡ kinds_at (slice_get (catalog h) t) =
+    one.kinds table at ∙ ap kinds_at (sym at) in
+    ap (λ (x : Store). x.rows) is ∙ (λ i. record { kinds = kinds i; rows = one.rows_held i })

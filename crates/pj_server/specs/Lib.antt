@@ -6,7 +6,6 @@ pub mod Played
 pub mod Status
 pub mod RunLines
 pub mod Ends
-pub use Rattle.pj_legal.specs.Answers
 pub use Rattle.pj_legal.specs.Legal
 pub use Rattle.pj_legal.specs.Run
 pub use Rattle.pj_legal.specs.Texts

@@ -1,21 +1,23 @@
 -- What a statement's moves do to the journal.
 use Rattle.std.specs.Prelude.{◌≡◌, ◌<◌, ℕ, ◌+◌, ◌⊎◌, List, [], ◌∷◌, ◌++◌, length, Some, slice_get}
 use Rattle.pj_value.specs.Rows.{HaveKinds}
-use Rattle.pj_journal.specs.declared.table.Table.{Table}
+use Rattle.pj_expr.specs.declared.table.Table.{Table}
 use Rattle.pj_journal.specs.declared.entry.What.{What}
 use Rattle.pj_journal.specs.declared.entry.What.TheVariants as whats
 use Rattle.pj_journal.specs.declared.entry.Entry.{Entry}
-use Rattle.pj_journal.specs.History.{kinds_of}
+use Rattle.pj_expr.specs.Tables.{kinds_of}
+use Rattle.pj_expr.specs.Fits.{FitsQuery}
 use Rattle.pj_journal.specs.Log.{Log}
-use Rattle.pj_legal.specs.declared.types.Bound.{Bound}
-use Rattle.pj_legal.specs.declared.types.Bound.TheVariants as bounds
-use Rattle.pj_legal.specs.declared.types.LimitName.TheVariants.{History}
-use Rattle.pj_legal.specs.declared.types.Refusal.TheVariants as refusals
+use Rattle.pj_bind.specs.declared.types.Bound.{Bound}
+use Rattle.pj_bind.specs.declared.types.Bound.TheVariants as bounds
+use Rattle.pj_bind.specs.declared.types.LimitName.TheVariants.{History}
+use Rattle.pj_bind.specs.declared.types.Refusal.TheVariants as refusals
 use Rattle.pj_legal.specs.declared.reply.Reply.{Reply}
 use Rattle.pj_legal.specs.declared.reply.Reply.TheVariants as replies
-use Rattle.pj_legal.specs.declared.binding.BindFault.{BindFault}
-use Rattle.pj_legal.specs.declared.binding.BindFault.TheVariants as faults
-use Rattle.pj_legal.specs.Binding.{IsUnknown, BodyIsRefused}
+use Rattle.pj_bind.specs.declared.binding.BindFault.{BindFault}
+use Rattle.pj_bind.specs.declared.binding.BindFault.TheVariants as faults
+use Rattle.pj_bind.specs.Binding.{IsUnknown}
+use Rattle.pj_legal.specs.Binding.{BodyIsRefused}
 use Rattle.pj_legal.specs.Legal.{Said, entry_of, BoundForm, Form, IsFirstMove, IsBegun}
 use Rattle.pj_server.specs.declared.server.By.{By}
 
@@ -39,7 +41,8 @@ BoundFits tables (bounds.Create table) = IsUnknown tables table.name × (length 
 BoundFits tables (bounds.Insert place rows) =
     ((table : Table) × (slice_get tables place ≡ Some table) × (rows.kinds ≡ kinds_of table))
     × HaveKinds rows.kinds rows.rows
-BoundFits tables (bounds.Select place query) = place < length tables
+BoundFits tables (bounds.Select place query) =
+    (table : Table) × (slice_get tables place ≡ Some table) × FitsQuery (kinds_of table) query
 
 -- no move, or the one that the bound statement may stop after
 abbrev pub BoundStops : (Bound → What → Type 0) → Said → Bound → List Entry → Type 0

@@ -1,8 +1,9 @@
 -- How the server's state stands for its history. No public contract cites this file.
 use Rattle.std.specs.Prelude.{◌≡◌, ◌<◌, ◌≤◌, ℕ, List, [], length, slice_index_or, Some, slice_get}
-use Rattle.pj_journal.specs.declared.table.Table.{Table}
+use Rattle.pj_expr.specs.declared.table.Table.{Table}
 use Rattle.pj_journal.specs.declared.entry.Entry.{Entry}
-use Rattle.pj_journal.specs.History.{catalog, rows, next, kinds_of, IsRegular}
+use Rattle.pj_journal.specs.History.{catalog, rows, next, IsRegular}
+use Rattle.pj_expr.specs.Tables.{kinds_of}
 use Rattle.pj_server.specs.declared.store.Store.{Store}
 
 -- the store holds the rows of the table of this number, with its kinds, and its next number

@@ -4,7 +4,6 @@
 mod end;
 mod lines;
 mod playing;
-mod select;
 mod server;
 mod store;
 mod telling;

@@ -1,18 +1,21 @@
 //! The state of the server, and the moves that change it.
 ghost use Rattle.std.specs.Prelude.{◌≡◌, ◌<◌, ◌≤◌, ◌↔◌, List, [], ◌∷◌, length, IfOk, IfErr, OnOk, OnErr};
 ghost use Rattle.pj_value.specs.Rows.{HaveKinds};
-ghost use Rattle.pj_journal.specs.declared.table.Table.{Table};
-ghost use Rattle.pj_journal.specs.History.{catalog, kinds_of, IsRegular, WhatFits};
+ghost use Rattle.pj_expr.specs.declared.table.Table.{Table};
+ghost use Rattle.pj_journal.specs.History.{catalog, IsRegular, WhatFits};
+ghost use Rattle.pj_expr.specs.Tables.{kinds_of};
 ghost use Rattle.pj_journal.specs.Log.{empty_log, IsFull};
-ghost use Rattle.pj_legal.specs.Binding.{IsUnknown, BodyBinds};
+ghost use Rattle.pj_bind.specs.Binding.{IsUnknown};
+ghost use Rattle.pj_legal.specs.Binding.{BodyBinds};
 ghost use Rattle.pj_legal.specs.Legal.{entry_of};
 
-use crate::select::answer;
 use crate::store::{Store, append};
+use pj_exec::select;
+use pj_expr::{Query, Table};
 use pj_journal::types::Catalog;
-use pj_journal::{Actor, Entry, Journal, MoveFault, Table, What};
+use pj_journal::{Actor, Entry, Journal, MoveFault, What};
 use pj_legal::types::{Bound, LimitName, Refusal};
-use pj_legal::{BindFault, Parsed, Query, Reply, bind, read_statement};
+use pj_legal::{BindFault, Parsed, Reply, bind, read_statement};
 use pj_value::{NoMemory, Rows};
 use std::alloc::Global;
 use std::marker::Model;
@@ -233,7 +236,7 @@ impl Server {
         requires fits { BoundFits (catalog self.old.entries) (Bound.Select table query.now) }
         ensures { Does self.old self.new (said_by by) (Bound.Select table query.now) result }
     {
-        match answer(alloc, query, &self.stores[table as usize].rows) {
+        match select(alloc, query, &self.stores[table as usize].rows) {
             Ok(rows) => {
                 self.note(by, What::Looked { table });
                 Reply::Rows(rows)

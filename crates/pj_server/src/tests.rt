@@ -139,17 +139,17 @@ fn each_status_has_its_cause(rt: HostRuntime) -> Result<(), Fail> {
 fn refusals_leave_the_table_as_it_was(rt: HostRuntime) -> Result<(), Fail> {
     let script = b"a: CREATE TABLE t (x UInt64) ENGINE = MergeTree ORDER BY x
 a: INSERT INTO t VALUES (1, 2)
-a: SELECT x FROM t
+a: SELECT y FROM t
 a: SELECT count() FROM t
 a: CREATE TABLE t (y UInt64) ENGINE = MergeTree ORDER BY y
 a: SELECT count() FROM u
-a: SELECT x FROM u
+a: SELECT sum(x) FROM u
 a: SELECT count( FROM t
 a: SELECT \"x\" FROM t
 ";
     let replies = b"1 a ok
-2 a NOT_BUILT
-3 a NOT_BUILT
+2 a TYPE_MISMATCH
+3 a UNKNOWN_IDENTIFIER y
 4 a rows 1
 0
 5 a TABLE_ALREADY_EXISTS t
@@ -161,6 +161,20 @@ a: SELECT \"x\" FROM t
     let refused = played(rt.alloc(), &[], script, 4096, 0, 0)?;
     assert!(rt; refused.status == 0 && refused.entries == 9);
     assert!(rt; refused.written.as_slice() == replies.as_slice());
+    Ok(())
+}
+
+#[test]
+fn a_select_is_filtered_and_ordered_and_then_cut(rt: HostRuntime) -> Result<(), Fail> {
+    let script = b"a: CREATE TABLE t (k UInt64, v UInt64) ENGINE = MergeTree ORDER BY k
+a: INSERT INTO t VALUES (5, 7), (2, 8), (3, 7)
+a: INSERT INTO t (v, k) VALUES (7, 1), (7, 9)
+a: SELECT k FROM t WHERE v = 7 ORDER BY k LIMIT 3
+";
+    let replies = b"1 a ok\n2 a ok\n3 a ok\n4 a rows 3\n1\n3\n5\n";
+    let selected = played(rt.alloc(), &[], script, 4096, 0, 0)?;
+    assert!(rt; selected.status == 0 && selected.entries == 6);
+    assert!(rt; selected.written.as_slice() == replies.as_slice());
     Ok(())
 }
 

@@ -2,7 +2,8 @@ use Rattle.std.proofs.Common.{ℕ, ◌+◌, List, [], ◌∷◌, ◌++◌, map, 
 use Rattle.std.proofs.Common.{Bor, Vec, Global, append_assoc, arith, ap, sym, ◌∙◌}
 use Rattle.std.proofs.lemmas.List.{map_push}
 use Rattle.std.specs.Fmt.{decimal}
-use Rattle.pj_journal.specs.History.{catalog, names}
+use Rattle.pj_journal.specs.History.{catalog}
+use Rattle.pj_expr.specs.Tables.{names}
 use Rattle.pj_legal.specs.Texts.{as_line, entry_text, entries_text}
 use Rattle.pj_legal.proofs.Histories.{entries_text-more, names-created, names-other}
 use Rattle.pj_legal.proofs.history.history_text.Goals as goal

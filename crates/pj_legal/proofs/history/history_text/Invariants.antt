@@ -1,6 +1,7 @@
 use Rattle.std.proofs.Common.{◌≡◌, ◌++◌, [], length, map, take, codes}
 use Rattle.std.specs.Fmt.{decimal}
-use Rattle.pj_journal.specs.History.{catalog, names}
+use Rattle.pj_journal.specs.History.{catalog}
+use Rattle.pj_expr.specs.Tables.{names}
 use Rattle.pj_legal.specs.Texts.{as_line, entries_text}
 use Rattle.pj_legal.proofs.history.history_text.Given as goal
 

@@ -1,7 +1,7 @@
 use Rattle.std.proofs.Common.{◌≡◌, ◌∷◌, [], ◌++◌, ap, ◌∙◌, refl}
 use Rattle.std.proofs.lemmas.Slice.{pushed}
 use Rattle.pj_value.specs.Rows.{no_rows}
-use Rattle.pj_journal.specs.History.{kinds_of}
+use Rattle.pj_expr.specs.Tables.{kinds_of}
 use Rattle.pj_server.specs.declared.store.Store.{Store}
 use Rattle.pj_server.proofs.StateLemmas.{Stands-created}
 use Rattle.pj_server.proofs.server.Server.create.Goals as goal

@@ -1,6 +1,0 @@
-use Rattle.std.proofs.Common.{◌≡◌, map, take}
-use Rattle.pj_legal.specs.Binding.{column_of}
-use Rattle.pj_legal.proofs.binding.columns_of.Given as goal
-
-abbrev pub invariant-columns : goal.invariant-columns
-invariant-columns l = l.defs.items ≡ map column_of (take l.column-index l.columns)
