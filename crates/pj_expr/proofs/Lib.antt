@@ -17,4 +17,5 @@ pub mod PlaceLemmas
 pub mod RowLemmas
 pub mod ShapeLemmas
 pub mod Shuffles
+pub mod TurnedLemmas
 pub mod ValueOrder

@@ -1,6 +1,5 @@
 //! Numbers for a block of rows, and arithmetic on all of them at once.
 ghost use Rattle.std.specs.Prelude.{◌≡◌, ℕ, ◌≤◌, IfOk, length, map};
-ghost use Rattle.std.specs.List.{zip};
 ghost use Rattle.pj_expr.specs.Blocks.{of_two, of_parts, numbers_of, totals, parts_by};
 
 use pj_value::NoMemory;
@@ -84,8 +83,9 @@ pub(crate) fn divided<'a>(
     match a {
         Numbers::Same(number) => Ok(Numbers::Same(part.of(number, d))),
         Numbers::Lent(lent) => {
-            let found = lent.iter().map(|n| part.of(*n, d)).collect(alloc)?;
-            Ok(Numbers::Own(found))
+            let mut own = Vec::from_slice(alloc, lent)?;
+            divide_each(part, &mut own, d);
+            Ok(Numbers::Own(own))
         }
         Numbers::Own(mut own) => {
             divide_each(part, &mut own, d);
@@ -126,7 +126,7 @@ fn with_number<'a>(
     match a {
         Numbers::Same(first) => Ok(Numbers::Same(arith.of(first, b))),
         Numbers::Lent(lent) => {
-            let found = lent.iter().map(|n| arith.of(*n, b)).collect(alloc)?;
+            let found = each_with_number(alloc, arith, lent, b)?;
             Ok(Numbers::Own(found))
         }
         Numbers::Own(mut own) => {
@@ -150,12 +150,13 @@ fn with_numbers<'a>(
 {
     match a {
         Numbers::Same(first) => {
-            let found = more.iter().map(|n| arith.of(first, *n)).collect(alloc)?;
+            let found = each_with_number(alloc, arith, more, first)?;
             Ok(Numbers::Own(found))
         }
         Numbers::Lent(lent) => {
-            let found = rows_of_two(alloc, arith, lent, more)?;
-            Ok(Numbers::Own(found))
+            let mut own = Vec::from_slice(alloc, lent)?;
+            combine_rows(arith, &mut own, more);
+            Ok(Numbers::Own(own))
         }
         Numbers::Own(mut own) => {
             combine_rows(arith, &mut own, more);
@@ -164,16 +165,18 @@ fn with_numbers<'a>(
     }
 }
 
-/// The sums or the products of the numbers of two slices, row by row.
-fn rows_of_two(alloc: Global, arith: Arith, a: &[u64], b: &[u64]) -> Result<Vec<u64>, NoMemory>
-    ensures { IfOk result (λ ns. ns.items ≡ map (λ p. of_two arith p.0 p.1) (zip a.now b.now)) }
+/// The sums or the products of the numbers of a slice with one number.
+fn each_with_number(
+    alloc: Global,
+    arith: Arith,
+    numbers: &[u64],
+    number: u64,
+) -> Result<Vec<u64>, NoMemory>
+    ensures { IfOk result (λ ns. ns.items ≡ map (λ n. of_two arith n number) numbers.now) }
 {
-    let found = a
-        .iter()
-        .zip(b)
-        .map(|(m, n)| arith.of(*m, *n))
-        .collect(alloc)?;
-    Ok(found)
+    let mut own = Vec::from_slice(alloc, numbers)?;
+    combine_each(arith, &mut own, number);
+    Ok(own)
 }
 
 /// Divides each number in its place.
