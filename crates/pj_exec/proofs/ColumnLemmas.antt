@@ -1,5 +1,6 @@
 -- What items give for rows by themselves, column by column.
-use Rattle.std.proofs.Common.{◌≡◌, ℕ, zero, suc, ◌<◌, List, [], ◌∷◌, length, map, get_or, Some}
+use Rattle.std.proofs.Common.{◌≡◌, ℕ, zero, suc, ◌<◌, List, [], ◌∷◌, length, map, get_or, replicate}
+use Rattle.std.proofs.Common.{Some}
 use Rattle.std.proofs.Common.{refl, sym, ap, ◌∙◌, arith, subst}
 use Rattle.std.specs.List.{All, AllByRecursion, range_with_len}
 use Rattle.std.proofs.lemmas.List.{same_lists, length-map, get_or-map}
@@ -7,6 +8,7 @@ use Rattle.std.proofs.lemmas.List.FromFn.{length-map-range_with_len, get_or-map-
 use Rattle.std.proofs.lemmas.List.Elements.{All-from_recursion}
 use Rattle.std.proofs.lemmas.Simd.{map-map}
 use Rattle.pj_value.specs.declared.value.Kind.TheVariants as kinds
+use Rattle.pj_value.specs.declared.value.Value.{Value}
 use Rattle.pj_value.specs.declared.value.Value.TheVariants as values
 use Rattle.pj_value.specs.Columns.{KindedValues, values_at, kinds_of, values_of, row_at}
 use Rattle.pj_value.specs.Rows.{KindedRows, value_in, rows_at, rows_in, rows_joined, column_of}
@@ -58,6 +60,12 @@ item_column-copied rows places c column copy f e g =
         map-same _ _ places (λ k. get_or-map_all (λ (row : Row). value_in row c) rows.rows k [])
         ∙ sym (map-map (λ (row : Row). value_in row c) (λ k. get_or rows.rows k []) places)
         ∙ map-same _ _ (rows_at rows.rows places) (λ row. sym (eval-Column row c))
+
+-- the values of an expression that is the same for each row
+pub values-literal : (rows : List Row) (e : Expr) (v : Value) → ((row : Row) → eval e row ≡ v)
+    → replicate (length rows) v ≡ map (λ row. eval e row) rows
+values-literal [] e v h = refl
+values-literal (row ∷ rows) e v h = λ i. sym (h row) i ∷ values-literal rows e v h i
 
 -- ---- columns as rows
 

@@ -1,4 +1,5 @@
 pub mod ColumnLemmas
 pub mod CountLemmas
+pub mod LeastLemmas
 pub mod LineLemmas
 pub mod OrderLemmas

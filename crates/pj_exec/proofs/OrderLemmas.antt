@@ -1,12 +1,14 @@
 -- The order of rows by keys, and the lines that stand in it.
 use Rattle.std.proofs.Common.{◌≡◌, ℕ, ◌+◌, ◌<◌, Bool, true, false, List, [], ◌∷◌, length, map, get_or, drop}
+use Rattle.std.proofs.Common.{replicate}
 use Rattle.std.proofs.Common.{refl, sym, ap, ◌∙◌, subst}
 use Rattle.std.specs.Ordering.{ordering_then, ordering_reverse, flip_args}
-use Rattle.std.specs.Cmp.{IsTotalOrder}
+use Rattle.std.specs.Cmp.{IsTotalOrder, IsStrictWeakOrder}
 use Rattle.std.specs.declared.cmp.Ordering.{Ordering}
 use Rattle.std.specs.declared.cmp.Ordering.TheVariants.{Less, Equal, Greater}
-use Rattle.std.proofs.lemmas.Cmp.{on_total, then_total, back_total}
-use Rattle.std.proofs.lemmas.List.{drop_more}
+use Rattle.std.proofs.lemmas.Cmp.{on_total, then_total, back_total, tied_itself}
+use Rattle.std.proofs.lemmas.List.{drop_more, get_or-replicate}
+use Rattle.std.proofs.lemmas.List.Sorted.{ranks_by}
 use Rattle.pj_value.specs.declared.value.Value.{Value}
 use Rattle.pj_value.specs.declared.value.Value.TheVariants as values
 use Rattle.pj_value.specs.Order.{value_cmp}
@@ -16,7 +18,7 @@ use Rattle.pj_expr.specs.declared.query.OrderKey.{OrderKey}
 use Rattle.pj_expr.specs.Answers.{turned}
 use Rattle.pj_expr.proofs.OrderLemmas.{keys_total}
 use Rattle.pj_exec.specs.declared.keys.Key.{Key}
-use Rattle.pj_exec.specs.Places.{KeyValues, key_values, values_cmp, places_cmp}
+use Rattle.pj_exec.specs.Places.{KeyValues, key_values, values_cmp, places_cmp, is_before}
 
 -- ---- one total order
 
@@ -55,6 +57,17 @@ places_total (key ∷ keys) =
     then_total
     (turned_total _ key.descending (on_total (λ (at : ℕ). get_or key.values at (values.Num 0)) value_total))
     (places_total keys)
+
+-- and the test of it is that of an order
+pub places_ranked : (keys : List KeyValues) → IsStrictWeakOrder (is_before keys)
+places_ranked keys = ranks_by (places_total keys) (λ at. at)
+
+-- one value of so many rows, at two of them
+pub values_cmp-same : (n a b : ℕ) (v : Value) → a < n → b < n → Equal ≡ values_cmp (replicate n v) a b
+values_cmp-same n a b v l m =
+    sym (tied_itself value_total v)
+    ∙ (λ i. value_cmp (sym (get_or-replicate n a v (values.Num 0) l) i)
+    (sym (get_or-replicate n b v (values.Num 0) m) i))
 
 -- ---- one key more
 

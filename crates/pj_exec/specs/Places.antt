@@ -1,5 +1,5 @@
 -- How a query that doesn't aggregate is computed by columns and places. No public contract cites this file.
-use Rattle.std.specs.Prelude.{ℕ, Bool, List, [], ◌∷◌, map, slice_index_or}
+use Rattle.std.specs.Prelude.{ℕ, Bool, List, [], ◌∷◌, map, replicate, slice_index_or}
 use Rattle.std.specs.declared.cmp.Ordering.{Ordering}
 use Rattle.std.specs.declared.cmp.Ordering.TheVariants.{Equal}
 use Rattle.std.specs.Ordering.{ordering_then, is_lt}
@@ -7,6 +7,7 @@ use Rattle.pj_value.specs.declared.value.Kind.{Kind}
 use Rattle.pj_value.specs.declared.value.Value.{Value}
 use Rattle.pj_value.specs.declared.value.Value.TheVariants as values
 use Rattle.pj_value.specs.Columns.{KindedValues}
+use Rattle.pj_value.specs.Values.{value_of}
 use Rattle.pj_value.specs.Rows.{KindedRows, rows_at}
 use Rattle.pj_value.specs.Order.{value_cmp}
 use Rattle.pj_expr.specs.declared.query.Item.{Item}
@@ -15,7 +16,7 @@ use Rattle.pj_expr.specs.declared.query.OrderKey.{OrderKey}
 use Rattle.pj_expr.specs.Fits.{FitsExpr}
 use Rattle.pj_expr.specs.Answers.{Row, item_value, item_kind, turned}
 use Rattle.pj_exec.specs.declared.keys.Values.{Values}
-use Rattle.pj_exec.specs.declared.keys.Values.TheVariants.{Lent, Own}
+use Rattle.pj_exec.specs.declared.keys.Values.TheVariants.{Lent, Own, Same}
 use Rattle.pj_exec.specs.declared.keys.Key.{Key}
 
 -- the item fits, and is no call
@@ -58,10 +59,11 @@ pub record KeyValues : Type 0 where
 abbrev pub key_for : KindedRows → OrderKey → KeyValues
 key_for rows key = record { descending = key.descending; values = (item_column rows key.item).values }
 
--- the values that are lent or computed
+-- the values that are lent or computed, or one value for so many rows
 abbrev pub values_in : Values → List Value
 values_in (Lent column) = column.now.values
 values_in (Own column) = column.values
+values_in (Same cell len) = replicate len (value_of cell)
 
 -- a key as it is kept
 abbrev pub key_values : Key → KeyValues

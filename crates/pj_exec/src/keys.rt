@@ -1,5 +1,5 @@
 //! The keys of ORDER BY, each as a column for all rows, by which rows are compared where they lie.
-ghost use Rattle.std.specs.Prelude.{◌≡◌, IfOk, map, slice_index_or};
+ghost use Rattle.std.specs.Prelude.{◌≡◌, IfOk, map, replicate, slice_index_or};
 ghost use Rattle.std.specs.List.{All};
 ghost use Rattle.pj_value.specs.Values.{value_of};
 ghost use Rattle.pj_value.specs.declared.value.Value.TheVariants as values;
@@ -13,11 +13,12 @@ use pj_value::{Cell, Column, NoMemory, Rows, cell_cmp};
 use std::alloc::Global;
 use std::cmp::Ordering;
 
-/// The values of a key: a column of the rows, lent, or one that was computed.
+/// The values of a key: a column of the rows, lent, or one that was computed, or one value for so many rows.
 #[derive(Drop)]
 enum Values<'a> {
     Lent(&'a Column),
     Own(Column),
+    Same(Cell<'a>, usize),
 }
 
 /// A key of ORDER BY with its values for all rows.
@@ -27,10 +28,10 @@ pub(crate) struct Key<'a> {
     descending: bool,
 }
 
-/// The keys of ORDER BY for all rows. A key that is a column takes no memory of its own.
+/// The keys of ORDER BY for all rows. A key that is a column or a literal takes no memory of its own.
 pub(crate) fn keys_of<'a>(
     alloc: Global,
-    keys: &[OrderKey],
+    keys: &'a [OrderKey],
     rows: &'a Rows,
 ) -> Result<Vec<Key<'a>>, NoMemory>
     requires { All (λ key. FitsRow rows.now.kinds key.item) keys.now }
@@ -44,7 +45,7 @@ pub(crate) fn keys_of<'a>(
 }
 
 /// A key for all rows.
-fn key_of<'a>(alloc: Global, key: &OrderKey, rows: &'a Rows) -> Result<Key<'a>, NoMemory>
+fn key_of<'a>(alloc: Global, key: &'a OrderKey, rows: &'a Rows) -> Result<Key<'a>, NoMemory>
     requires { FitsRow rows.now.kinds key.now.item }
     ensures { IfOk result (λ k. key_values k ≡ key_for rows.now key.now) }
 {
@@ -58,12 +59,14 @@ fn key_of<'a>(alloc: Global, key: &OrderKey, rows: &'a Rows) -> Result<Key<'a>, 
 }
 
 /// The values of an expression for all rows.
-fn values_of<'a>(alloc: Global, expr: &Expr, rows: &'a Rows) -> Result<Values<'a>, NoMemory>
+fn values_of<'a>(alloc: Global, expr: &'a Expr, rows: &'a Rows) -> Result<Values<'a>, NoMemory>
     requires { FitsExpr rows.now.kinds expr.now }
     ensures { IfOk result (λ vs. values_in vs ≡ map (λ row. eval expr.now row) rows.now.rows) }
 {
     match expr {
         Expr::Column(at) => Ok(Values::Lent(rows.column(*at))),
+        Expr::Num(number) => Ok(Values::Same(Cell::Num(*number), rows.len())),
+        Expr::Text(text) => Ok(Values::Same(Cell::Text(text), rows.len())),
         _ => Ok(Values::Own(eval_block(alloc, expr, rows)?)),
     }
 }
@@ -89,7 +92,26 @@ fn compare_values(values: &Values<'_>, a: usize, b: usize) -> Ordering
     match values {
         Values::Lent(column) => compare_cells(column, a, b),
         Values::Own(column) => compare_cells(column, a, b),
+        Values::Same(cell, len) => compare_same(*cell, *len, a, b),
     }
+}
+
+/// How the one value of so many rows stands to itself at two places. It is not looked at where both are rows.
+fn compare_same(cell: Cell<'_>, len: usize, a: usize, b: usize) -> Ordering
+    ensures { result ≡ values_cmp (replicate len (value_of cell.entry)) a b }
+{
+    if a.max(b) < len {
+        Ordering::Equal
+    } else {
+        cell_cmp(same_or_zero(cell, len, a), same_or_zero(cell, len, b))
+    }
+}
+
+/// The one value of so many rows at a place, and the number 0 where there is no row.
+fn same_or_zero(cell: Cell<'_>, len: usize, at: usize) -> Cell<'_>
+    ensures { value_of result ≡ slice_index_or (replicate len (value_of cell.entry)) at (values.Num 0) }
+{
+    if at < len { cell } else { Cell::Num(0) }
 }
 
 /// How the values of a column at two places stand to each other.

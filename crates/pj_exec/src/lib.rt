@@ -4,6 +4,7 @@
 mod counts;
 mod items;
 mod keys;
+mod least;
 mod lines;
 mod places;
 

@@ -1,14 +1,14 @@
 //! The places of the rows that a query keeps, in the order that ORDER BY asks for.
 ghost use Rattle.std.specs.Prelude.{◌≡◌, ◌<◌, IfOk, length, map};
 ghost use Rattle.std.specs.List.{filter, range_with_len, All};
-ghost use Rattle.std.specs.List.Sorted.{IsPermutation, IsSortedBy};
 ghost use Rattle.pj_value.specs.Rows.{rows_at};
 ghost use Rattle.pj_expr.specs.Eval.{holds};
 ghost use Rattle.pj_expr.specs.Fits.{FitsCond};
-ghost use Rattle.pj_expr.specs.Lines.{first_of};
+ghost use Rattle.pj_exec.specs.Least.{AreFirst};
 ghost use Rattle.pj_exec.specs.Places.{FitsRow, key_for, key_values, is_before};
 
-use crate::keys::{Key, compare, keys_of};
+use crate::keys::{Key, keys_of};
+use crate::least::{cut_to, first_sorted, least_places};
 use pj_expr::{Cond, OrderKey, kept};
 use pj_value::{NoMemory, Rows};
 use std::alloc::Global;
@@ -39,43 +39,44 @@ fn all_places(alloc: Global, len: usize) -> Result<Vec<usize>, NoMemory>
     Ok(places)
 }
 
-/// These places of rows, sorted by the keys of ORDER BY. Rows that no key tells apart keep their order.
-pub(crate) fn arranged(
+/// The first of these places of rows in the order of ORDER BY, as many as LIMIT says. Rows that no key tells
+/// apart keep their order.
+pub(crate) fn first_places(
     alloc: Global,
     keys: &[OrderKey],
     rows: &Rows,
     places: Vec<usize>,
+    limit: Option<u64>,
 ) -> Result<Vec<usize>, NoMemory>
     requires { All (λ key. FitsRow rows.now.kinds key.item) keys.now }
-    ensures each_once { IfOk result (λ ps. IsPermutation places.items ps.items) }
-    ensures sorted { IfOk result (λ ps. IsSortedBy (is_before (map (key_for rows.now) keys.now)) ps.items) }
+    ensures { IfOk result
+        (λ ps. AreFirst (is_before (map (key_for rows.now) keys.now)) limit places.items ps.items) }
 {
     if keys.is_empty() {
-        Ok(places)
+        Ok(cut_to(places, limit))
     } else {
         let keys = keys_of(alloc, keys, rows)?;
-        sorted(places, keys.as_slice())
+        first_by(alloc, places, keys.as_slice(), limit)
     }
 }
 
-/// The same places, sorted by keys.
-fn sorted(mut places: Vec<usize>, keys: &[Key<'_>]) -> Result<Vec<usize>, NoMemory>
-    ensures each_once { IfOk result (λ ps. IsPermutation places.items ps.items) }
-    ensures sorted { IfOk result (λ ps. IsSortedBy (is_before (map key_values keys.now)) ps.items) }
-{
-    places.sort_by(|a, b| compare(keys, *a, *b))?;
-    Ok(places)
-}
-
-/// The first places, as many as LIMIT says.
-pub(crate) fn cut_to(mut places: Vec<usize>, limit: Option<u64>) -> Vec<usize>
-    ensures { result.items ≡ first_of limit places.items }
+/// The first of these places in the order of keys. They are sorted whole only where LIMIT leaves none out.
+fn first_by(
+    alloc: Global,
+    places: Vec<usize>,
+    keys: &[Key<'_>],
+    limit: Option<u64>,
+) -> Result<Vec<usize>, NoMemory>
+    ensures { IfOk result (λ ps. AreFirst (is_before (map key_values keys.now)) limit places.items ps.items) }
 {
     match limit {
-        None => places,
-        Some(most) => {
-            places.truncate(most as usize);
-            places
-        }
+        Some(0) => Ok(Vec::new(alloc)),
+        Some(most) if most < places.len() as u64 => least_places(
+            alloc,
+            places.as_slice(),
+            keys,
+            most,
+        ),
+        _ => first_sorted(places, keys, limit),
     }
 }

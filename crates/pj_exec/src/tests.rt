@@ -129,6 +129,20 @@ fn lines_are_sorted_and_then_cut(rt: HostRuntime) -> Result<(), Fail> {
 }
 
 #[test]
+fn a_literal_key_leaves_the_next_to_decide(rt: HostRuntime) -> Result<(), Fail> {
+    let alloc = rt.alloc();
+    let rows = five_rows(alloc)?;
+    let mut query = query(alloc, vec![in alloc; column(0)]?);
+    let literal = OrderKey {
+        item: Item::Plain(Expr::Text(Text::new(alloc, b"x")?)),
+        descending: true,
+    };
+    query.order = List::from_vec(vec![in alloc; literal, key(0, false)]?);
+    assert!(rt; gives_numbers(alloc, &query, &rows, &[3, 7, 10, 10, u64::MAX])?);
+    Ok(())
+}
+
+#[test]
 fn lines_stand_as_the_rows_do(rt: HostRuntime) -> Result<(), Fail> {
     let alloc = rt.alloc();
     let rows = five_rows(alloc)?;
