@@ -142,7 +142,8 @@ module _ (laws : HasOneMeaning) (body : List ℕ) where
   BodyIsRefused-one tables a b unique (inr (statement, reads, refused)) (inl s) =
       absurd (BodyReads-readable statement b reads s)
   BodyIsRefused-one tables a b unique (inr (statement, reads, refused)) (inr (other, too, again)) =
-      one_refusal tables statement a b unique refused (IsRefusal-read tables other statement b too reads again)
+      one_refusal tables statement a b unique refused
+      (IsRefusal-read tables other statement b too reads again)
 
 -- so a body is read as one statement at most
 pub OneBodyReading-from : HasOneMeaning → OneBodyReading

@@ -12,7 +12,8 @@ use Rattle.pj_value.specs.declared.value.Value.{Value}
 use Rattle.pj_expr.specs.declared.table.Table.{Table}
 use Rattle.pj_bind.specs.declared.types.LimitName.TheVariants.{History}
 use Rattle.pj_bind.specs.declared.types.Refusal.{Refusal}
-use Rattle.pj_bind.specs.declared.types.Refusal.TheVariants.{Syntax, Limit, NotBuilt, UnknownTable, TableExists}
+use Rattle.pj_bind.specs.declared.types.Refusal.TheVariants.{Syntax, Limit, NotBuilt, UnknownTable}
+use Rattle.pj_bind.specs.declared.types.Refusal.TheVariants.{TableExists}
 use Rattle.pj_bind.specs.declared.types.Refusal.TheVariants.{DuplicateColumn, UnknownIdentifier, TypeMismatch}
 use Rattle.pj_bind.specs.declared.types.Refusal.TheVariants.{NotAnAggregate, NoMemory}
 use Rattle.pj_bind.specs.Names.{Name, is_among, IsFirstRepeat}

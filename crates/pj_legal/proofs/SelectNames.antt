@@ -116,7 +116,8 @@ module _ (value : Grammar Tree) (gives : Gives HasWords value) where
   -- ORDER BY
   Gives-order_by : Gives (AllByRecursion (λ k. ItemHasWords k.item)) (order_by value)
   Gives-order_by ts keys spelled o =
-      Gives-listed (λ (k : TreeOrder). ItemHasWords k.item) (order_key value) Gives-order_key o.other.back keys
+      Gives-listed (λ (k : TreeOrder). ItemHasWords k.item) (order_key value) Gives-order_key
+      o.other.back keys
       (back (back spelled o) o.other) o.other.other
 
   -- a SELECT's names are words
@@ -156,7 +157,8 @@ module _ (value : Grammar Tree) (gives : Gives HasWords value) where
       let b = names_of_filter filter.found in
       let c = flat_map (names_of_group its) (or_empty groups.found) in
       let d = flat_map (λ (k : TreeOrder). names_of_key its k.item) (or_empty order.found) in
-      let words_c = AreWords-groups its (or_empty groups.found) (All-or_empty HasWords groups.found in_groups) in
+      let words_c =
+      AreWords-groups its (or_empty groups.found) (All-or_empty HasWords groups.found in_groups) in
       let words_d =
       AreWords-order its (or_empty order.found)
       (All-or_empty (λ (k : TreeOrder). ItemHasWords k.item) order.found in_order) in

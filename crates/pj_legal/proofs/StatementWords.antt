@@ -62,5 +62,6 @@ lexemes-spelled body here bytes (token ∷ tokens) there rest left (more, first,
 pub IsOfWords-body : (body : List ℕ) (s : Statement) → BodyReads body s → IsOfWords s
 IsOfWords-body body s reads =
     let (there, rest, lead, blank) = reads.are in
-    IsOfWords-line (lexemes body reads.tokens) s (lexemes-spelled body 0 body reads.tokens there rest refl lead)
+    IsOfWords-line (lexemes body reads.tokens) s
+    (lexemes-spelled body 0 body reads.tokens there rest refl lead)
     reads.line

@@ -60,5 +60,6 @@ length-text_at here bytes (t ∷ ts) there rest (suc at) token text lead l e is 
 pub HasLongText-long : (body : List ℕ) (tokens : List Token) → AreTokens body tokens → HasLongText tokens
     → text_limit < length body
 HasLongText-long body tokens are long =
-    let inside = length-text_at 0 body tokens are.0 are.1 long.0 long.1 long.4.0 are.2 long.2 long.3 long.4.1 in
+    let inside =
+    length-text_at 0 body tokens are.0 are.1 long.0 long.1 long.4.0 are.2 long.2 long.3 long.4.1 in
     let limit = long.4.2 in omega arith

@@ -10,10 +10,8 @@ use pj_value::{NoMemory, Text};
 use std::alloc::Global;
 
 /// The text of the journal's history, with the names of the script's sessions: how many entries there are,
-/// and a
-/// line for each. An entry names its table by the catalog of its own place. Takes time and memory linear in
-/// the
-/// history.
+/// and a line for each. An entry names its table by the catalog of its own place. Takes time and memory
+/// linear in the history.
 pub fn history_text(alloc: Global, script: &Script, journal: &Journal) -> Result<Text, NoMemory>
     ensures { IfOk result (λ text. text ≡ text_of_history script.now.names journal.now.entries) }
 {
@@ -41,7 +39,8 @@ fn put_entry(
     entry: &Entry,
 ) -> Result<(), NoMemory>
     ensures { OnOk result
-        (out.new.items ≡ out.old.items ++ entry_text names.now number (map (λ t. t.now) tables.now) entry.now) }
+        (out.new.items
+        ≡ out.old.items ++ entry_text names.now number (map (λ t. t.now) tables.now) entry.now) }
 {
     put_number(out, number)?;
     out.push(b' ')?;

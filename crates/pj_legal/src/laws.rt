@@ -12,15 +12,13 @@ pub fn runs_are_legal()
 {}
 
 /// What one thread leaves that stopped behind one of a script's statements is a legal history of the script
-/// up to
-/// that statement.
+/// up to that statement.
 pub fn cut_runs()
     ensures { CutRunsAreLegal }
 {}
 
 /// In a legal history a statement that found the journal full, by the moves of the lines before it, was
-/// refused for that
-/// or for want of memory.
+/// refused for that or for want of memory.
 pub fn full_refuses_all()
     ensures { FullRefusesAll }
 {}
@@ -71,8 +69,7 @@ pub fn legal_replies_are_plain()
 {}
 
 /// A reader of replies can tell them apart: the line and the session's name are read from a text that begins
-/// with a
-/// reply, and so is what it announces, where the name that a refusal gives has no line feed.
+/// with a reply, and so is what it announces, where the name that a refusal gives has no line feed.
 pub fn replies_are_told_apart()
     ensures { RepliesAreToldApart }
 {}

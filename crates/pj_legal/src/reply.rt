@@ -23,8 +23,7 @@ pub enum Reply {
 }
 
 /// The text of a reply to the statement of this line, of the session of this name: one line, and then the
-/// lines
-/// that it announces. Takes time and memory linear in the text.
+/// lines that it announces. Takes time and memory linear in the text.
 #[tactic(auto, unfolding(crate::specs::Texts::reply_text))]
 pub fn reply_text(alloc: Global, line: u32, name: &Text, reply: &Reply) -> Result<Text, NoMemory>
     ensures { IfOk result (λ text. text ≡ text_of_reply line name.now reply.now) }

@@ -1,6 +1,7 @@
 -- Facts about rows that lie in one list of values.
 use Rattle.std.proofs.Common.{◌≡◌, ℕ, zero, suc, ◌-◌, ◌<◌, ◌≤◌, List, [], ◌∷◌, ◌++◌, length, get_or, drop}
-use Rattle.std.proofs.Common.{slice_range, refl, ap, arith, length-append, length-drop, drop_of_length-le, le_refl}
+use Rattle.std.proofs.Common.{slice_range, refl, ap, arith, length-append, length-drop}
+use Rattle.std.proofs.Common.{drop_of_length-le, le_refl}
 use Rattle.std.proofs.lemmas.List.{take-append-le, drop-append-le}
 use Rattle.std.proofs.lemmas.Slice.{between_to_end}
 use Rattle.pj_value.specs.declared.value.Value.{Value}
@@ -78,7 +79,10 @@ AreEnds-push values value ends a =
 -- and belongs to the row that has begun
 pub begun-push : (values : List Value) (value : Value) (ends : List ℕ) → AreEnds 0 ends (length values)
     → ◌≡◌ {A = WithBegun}
-    (record { whole = rows_from (values ++ value ∷ []) 0 ends; begun = drop (last_end 0 ends) (values ++ value ∷ []) })
+    (record {
+      whole = rows_from (values ++ value ∷ []) 0 ends;
+      begun = drop (last_end 0 ends) (values ++ value ∷ []);
+    })
     (record { whole = rows_from values 0 ends; begun = drop (last_end 0 ends) values ++ value ∷ [] })
 begun-push values value ends a =
     rw (
@@ -105,7 +109,9 @@ whole-end values ends =
 
 -- a row lies between its begin and its end
 pub record IsRowAt {A : Type 0} (values : List A) (from : ℕ) (ends : List ℕ) (at : ℕ) : Type 0 where
-  pub row : get_or (rows_from values from ends) at [] ≡ slice_range values (begin_at from ends at) (get_or ends at 0)
+  pub row :
+      get_or (rows_from values from ends) at []
+      ≡ slice_range values (begin_at from ends at) (get_or ends at 0)
   pub order : begin_at from ends at ≤ get_or ends at 0
   pub within : get_or ends at 0 ≤ length values
 

@@ -5,11 +5,11 @@ use Rattle.pj_parse.specs.declared.types.Statement.{Statement}
 use Rattle.pj_parse.specs.Lexemes.{Lexeme, word, lexemes, spells}
 use Rattle.pj_parse.specs.GrammarStatements.{Line}
 
--- how many tokens a statement may have that doesn't begin with INSERT
+-- how many tokens a statement may have whose first isn't the word INSERT
 abbrev pub tokens_limit : ℕ
 tokens_limit = 1024
 
--- the first word is INSERT, in any letter case
+-- the first token is the word INSERT, in any letter case
 abbrev pub BeginsInsert : List Lexeme → Type 0
 BeginsInsert ts =
     (bytes : List ℕ) × (more : List Lexeme) × (ts ≡ word bytes ∷ more)

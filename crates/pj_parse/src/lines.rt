@@ -195,7 +195,8 @@ fn number_of(
     name: &[u8],
 ) -> Result<u32, ScriptFault>
     requires few { vec_len names.old ≤ names_limit mode }
-    ensures number { Gives (λ number. (names.new.items, number)) result (numbered mode line names.old.items name.now) }
+    ensures number { Gives (λ number. (names.new.items, number)) result
+        (numbered mode line names.old.items name.now) }
     ensures few { OnOk result (vec_len names.new ≤ names_limit mode) }
 {
     let limit = limit_of_names(mode) as usize;

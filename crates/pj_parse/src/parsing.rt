@@ -30,10 +30,10 @@ pub enum ParseFault {
     NoMemory,
 }
 
-/// The most tokens that a statement may have, unless its first word is INSERT.
+/// The most tokens that a statement may have, unless the first is the word INSERT.
 const TOKENS: usize = 1024;
 
-/// Whether the first word is INSERT.
+/// Whether the first token is the word INSERT.
 fn begins_insert(rest: &Rest<'_>) -> bool
     ensures { IsTrue result ↔ BeginsInsert rest.now }
 {
@@ -70,10 +70,8 @@ fn place_of(body: &[u8], tokens: &[Token], left: usize) -> usize
 }
 
 /// The statement of a body's tokens, as docs/GRAMMAR.md has them under "Statements". The tokens are read
-/// once, from the
-/// left, each looked at a few times. Memory is taken for the statement alone. Parentheses nest as deep as the
-/// limit of
-/// tokens lets them; each level takes some of the thread's stack.
+/// once, from the left, each looked at a few times. Memory is taken for the statement alone. Parentheses nest
+/// as deep as the limit of tokens lets them; each level takes some of the thread's stack.
 pub fn statement(alloc: Global, body: &[u8], tokens: &[Token]) -> Result<Statement, ParseFault>
     requires { AreTokens body.now tokens.now }
     ensures found { IfOk result (Line (lexemes body.now tokens.now)) }

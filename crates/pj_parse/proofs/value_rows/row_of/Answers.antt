@@ -15,7 +15,11 @@ overflow_sub-ends c =
 pub split_at-requires-2 : goal.split_at-requires-2
 split_at-requires-2 c =
     let r = row_at_place c.args.values.now 0 c.args.ends.now c.args.at c.requires.ends c.requires.at in
-    rw (c.split_at.ensures.back, length-drop c.begin_of-begin.result c.args.values.now, c.begin_of-begin.ensures)
+    rw (
+      c.split_at.ensures.back,
+      length-drop c.begin_of-begin.result c.args.values.now,
+      c.begin_of-begin.ensures,
+    )
     (omega (arith, r.order, r.within))
 
 pub returns : goal.returns
