@@ -1,5 +1,6 @@
 pub mod BindLaws
 mod FaultLemmas
+mod FillingLemmas
 mod NameLemmas
 mod QueryLemmas
 mod TableLemmas

@@ -2,6 +2,7 @@ pub mod Names
 pub mod Meanings
 pub mod Queries
 pub mod Filling
+pub mod Sources
 pub mod Tables
 pub mod Built
 pub mod Binding

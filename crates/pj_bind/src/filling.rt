@@ -4,8 +4,9 @@ ghost use Rattle.std.specs.List.{AllByRecursion, position};
 ghost use Rattle.std.specs.Str.{bytes_eq};
 ghost use Rattle.pj_value.specs.Rows.{HaveKinds};
 ghost use Rattle.pj_value.specs.Aggregates.{default};
-ghost use Rattle.pj_bind.specs.Filling.{value_for, filled_row, column_kinds};
+ghost use Rattle.pj_bind.specs.Filling.{literal_or_default, filled_row, column_kinds};
 ghost use Rattle.pj_bind.specs.Filling.{FillsRow, FillColumns, filled_rows};
+ghost use Rattle.pj_bind.specs.Sources.{source_of, source_kinds, filled_from, FillsFrom};
 
 use pj_expr::{ColumnDef, Table};
 use pj_parse::types::ValueRows;
@@ -14,7 +15,7 @@ use std::alloc::Global;
 
 /// The rows of an INSERT into the table, with a value for each column. WrongShape exactly where a row hasn't
 /// a literal for each column that it fills, of the column's kind. It takes time linear in the rows, times
-/// the columns of the table.
+/// the columns of the table; names are compared once, and not for each row.
 pub(crate) fn rows_filled(
     alloc: Global,
     table: &Table,
@@ -54,6 +55,13 @@ fn rows_as_they_are(alloc: Global, kinds: &[Kind], rows: &ValueRows) -> Result<R
     Ok(made)
 }
 
+/// What fills a column: its kind, and the place of its literal in each row, none where it is left out.
+#[derive(Clone, Copy)]
+struct Source {
+    kind: Kind,
+    place: Option<usize>,
+}
+
 /// The rows of literals for these names.
 fn rows_for_names(
     alloc: Global,
@@ -69,64 +77,93 @@ fn rows_for_names(
     ensures shape { result ≡ Err PushFault.WrongShape
         → AllByRecursion (FillsRow columns.now names.now) rows.now → ⊥ }
 {
+    let sources = sources_of(alloc, columns, names)?;
+    rows_from(alloc, kinds, sources.as_slice(), names.len(), rows)
+}
+
+/// What fills each column. Names are compared here alone, and not for each row.
+fn sources_of(alloc: Global, columns: &[ColumnDef], names: &[Text]) -> Result<Vec<Source>, NoMemory>
+    ensures { IfOk result (λ sources. sources.items ≡ map (source_of names.now) columns.now) }
+{
+    let mut sources = Vec::with_capacity(alloc, columns.len())?;
+    'columns: for column in columns {
+        sources.push(source_of(names, column))?;
+    }
+    Ok(sources)
+}
+
+/// What fills a column.
+fn source_of(names: &[Text], column: &ColumnDef) -> Source
+    ensures { result ≡ source_of names.now column.now }
+{
+    Source {
+        kind: column.kind,
+        place: place_of(names, &column.name),
+    }
+}
+
+/// What the sources give of rows of this many literals.
+fn rows_from(
+    alloc: Global,
+    kinds: &[Kind],
+    sources: &[Source],
+    width: usize,
+    rows: &ValueRows,
+) -> Result<Rows, PushFault>
+    requires { kinds.now ≡ source_kinds sources.now }
+    ensures rows { IfOk result (λ made. made
+        ≡ record { kinds = kinds.now; rows = map (filled_from sources.now) rows.now }) }
+    ensures fill { IfOk result (λ _. AllByRecursion (FillsFrom sources.now width) rows.now) }
+    ensures shape { result ≡ Err PushFault.WrongShape
+        → AllByRecursion (FillsFrom sources.now width) rows.now → ⊥ }
+{
     let mut made = Rows::new(alloc, kinds)?;
     'rows: for at in 0..rows.len() {
-        push_filled(alloc, &mut made, columns, names, rows.row(at))?;
+        push_filled(alloc, &mut made, sources, width, rows.row(at))?;
     }
     Ok(made)
 }
 
-/// Adds a row of literals for these names.
+/// Adds what the sources give of a row of this many literals.
 fn push_filled(
     alloc: Global,
     made: &mut Rows,
-    columns: &[ColumnDef],
-    names: &[Text],
+    sources: &[Source],
+    width: usize,
     row: &[Value],
 ) -> Result<(), PushFault>
-    requires { made.old.kinds ≡ column_kinds columns.now }
+    requires { made.old.kinds ≡ source_kinds sources.now }
     ensures added { OnOk result
-        (made.new
-        ≡ record made.old { rows = made.old.rows ++ filled_row columns.now names.now row.now ∷ [] }) }
-    ensures fills { OnOk result (FillsRow columns.now names.now row.now) }
-    ensures shape { result ≡ Err PushFault.WrongShape → FillsRow columns.now names.now row.now → ⊥ }
+        (made.new ≡ record made.old { rows = made.old.rows ++ filled_from sources.now row.now ∷ [] }) }
+    ensures fills { OnOk result (FillsFrom sources.now width row.now) }
+    ensures shape { result ≡ Err PushFault.WrongShape → FillsFrom sources.now width row.now → ⊥ }
 {
-    if row.len() != names.len() {
+    if row.len() != width {
         return Err(PushFault::WrongShape);
     }
-    let filled = row_filled(alloc, columns, names, row)?;
+    let filled = row_from(alloc, sources, row)?;
     made.push(filled.as_slice())
 }
 
-/// A row of literals for these names, with a value for each column.
-fn row_filled(
-    alloc: Global,
-    columns: &[ColumnDef],
-    names: &[Text],
-    row: &[Value],
-) -> Result<Vec<Value>, NoMemory>
-    ensures { IfOk result (λ values. values.items ≡ filled_row columns.now names.now row.now) }
+/// What the sources give of a row of literals.
+fn row_from(alloc: Global, sources: &[Source], row: &[Value]) -> Result<Vec<Value>, NoMemory>
+    ensures { IfOk result (λ values. values.items ≡ filled_from sources.now row.now) }
 {
-    let mut values = Vec::with_capacity(alloc, columns.len())?;
-    'columns: for column in columns {
-        values.push(value_for(alloc, names, row, column)?)?;
+    let mut values = Vec::with_capacity(alloc, sources.len())?;
+    'sources: for source in sources {
+        values.push(value_from(alloc, row, *source)?)?;
     }
     Ok(values)
 }
 
-/// The value of a row of literals for these names in a column.
-fn value_for(
-    alloc: Global,
-    names: &[Text],
-    row: &[Value],
-    column: &ColumnDef,
-) -> Result<Value, NoMemory>
-    ensures { IfOk result (λ value. value ≡ value_for names.now row.now column.now) }
+/// What a source gives of a row of literals.
+fn value_from(alloc: Global, row: &[Value], source: Source) -> Result<Value, NoMemory>
+    ensures { IfOk result (λ value. value ≡ literal_or_default source.kind row.now source.place) }
 {
-    match place_of(names, &column.name) {
+    match source.place {
         Some(at) if at < row.len() => row[at].duplicate(alloc),
         Some(_) => Ok(Value::Num(0)),
-        None => Ok(default_of(alloc, column.kind)),
+        None => Ok(default_of(alloc, source.kind)),
     }
 }
 
