@@ -282,7 +282,7 @@ ends_read BadLine wish wanted bytes left rest h a b wished read run =
 ends_read SinkFailed wish wanted bytes left rest h a b wished read run =
     record { wanted = wanted; wished = wished; bytes = bytes; read = read; run = run }
 ends_read NoMemory wish wanted bytes left rest h a b wished read run =
-    inr (record { wanted = wanted; wished = wished; bytes = bytes; read = read; run = run })
+    inr (inr (record { wanted = wanted; wished = wished; bytes = bytes; read = read; run = run }))
 ends_read Usage wish wanted bytes left rest h a b wished read run = absurd run
 ends_read SourceFailed wish wanted bytes left rest h a b wished read run = absurd run
 ends_read TooLarge wish wanted bytes left rest h a b wished read run = absurd run

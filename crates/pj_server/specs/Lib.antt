@@ -1,7 +1,6 @@
 pub mod Store
 pub mod State
 pub mod Moves
-pub mod Words
 pub mod Played
 pub mod Status
 pub mod RunLines
@@ -14,3 +13,4 @@ pub use Rattle.pj_journal.specs.Log
 pub use Rattle.pj_parse.specs.Lines
 pub use Rattle.pj_io.specs.Faults
 pub use Rattle.pj_io.specs.Transfers
+pub use Rattle.pj_words.specs.Words

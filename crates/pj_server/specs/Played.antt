@@ -118,7 +118,8 @@ EndsSo ends.SourceFailed wish left rest h before after =
 EndsSo ends.TooLarge wish left rest h before after =
     IsTaken wish × TookTooMuch script_bytes left rest × DoesNothing h before after
 EndsSo ends.NoMemory wish left rest h before after =
-    (IsTaken wish × TookAtMost script_bytes left rest × DoesNothing h before after)
+    (Consumes left rest [] × DoesNothing h before after)
+    ⊎ (IsTaken wish × TookAtMost script_bytes left rest × DoesNothing h before after)
     ⊎ Reads ends.NoMemory wish left rest h before after
 EndsSo ends.BadLine wish left rest h before after = Reads ends.BadLine wish left rest h before after
 EndsSo ends.SinkFailed wish left rest h before after = Reads ends.SinkFailed wish left rest h before after

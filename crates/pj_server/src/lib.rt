@@ -6,10 +6,8 @@ mod lines;
 mod playing;
 mod server;
 mod store;
-mod telling;
 
 pub use playing::{Ran, play};
-pub use telling::{About, asked_about};
 
 #[cfg(test)]
 mod tests;

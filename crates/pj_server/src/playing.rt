@@ -1,6 +1,6 @@
 //! The top call of `projplay`: from the bytes of a script to the bytes of its replies and the history of its
 //! run.
-ghost use Rattle.std.specs.Prelude.{◌≡◌, ℕ, ◌<◌, ◌≤◌, ◌↔◌, ◌⊎◌, List, [], ◌∷◌, length};
+ghost use Rattle.std.specs.Prelude.{◌≡◌, ℕ, ◌<◌, ◌≤◌, ◌⊎◌, List, [], ◌∷◌, length};
 ghost use Rattle.std.specs.Prelude.{map, Contains, Some, None, string_bytes, IfOk};
 ghost use Rattle.std.specs.List.{AllByRecursion};
 ghost use Rattle.std.specs.Io.KnownBytes.{Consumes};
@@ -12,7 +12,7 @@ ghost use Rattle.pj_parse.specs.Lines.{IsScript};
 ghost use Rattle.pj_legal.specs.Legal.{statements};
 ghost use Rattle.pj_legal.specs.Run.{LinesRise};
 ghost use Rattle.pj_legal.specs.Texts.{history_text as text_of_history};
-ghost use Rattle.pj_server.specs.Words.{wish_of};
+ghost use Rattle.pj_words.specs.Words.{wish_of};
 ghost use Rattle.pj_server.specs.Played.{script_bytes, history_entries, DoesNothing};
 ghost use Rattle.pj_server.specs.Played.{RunsSo, Reads, EndsSo, bad_line_text};
 ghost use Rattle.pj_server.specs.Ends.{TellsLine, ScriptEnds, FinishesSo};
@@ -28,6 +28,7 @@ use pj_legal::{cut_runs, history_text, runs_are_legal};
 use pj_parse::types::{Script, ScriptMode};
 use pj_parse::{ScriptFault, lines_rise, no_script_with_a_bad_line, script};
 use pj_value::NoMemory;
+use pj_words::{WordsFault, wants_history};
 use std::alloc::Global;
 
 /// How many bytes a script may have.
@@ -53,27 +54,29 @@ pub(crate) struct Played {
 }
 
 /// Reads a script of at most 16,777,216 bytes from the source, runs its lines in their order on this thread,
-/// and writes
-/// the reply of each as it comes, and, with the word `--history`, the text of the history behind them.
+/// and writes the reply of each as it comes, and, with the flag `--history`, the text of the history behind
+/// them.
 ///
-/// The words are the program's name and then nothing or that one word. The statuses are 0 where the script
-/// was run and
-/// all was written, 2 for words that aren't taken, 4 where the source failed, 7 for too many bytes, 3 for a
-/// bad line,
-/// 5 where the sink failed, and 6 for want of memory of the call itself.
+/// The words are the program's name and then nothing or that one flag, as `wants_history` reads them. The
+/// statuses are 0 where the script was run and all was written, 2 for words that aren't taken, 4 where the
+/// source failed, 7 for too many bytes, 3 for a bad line, 5 where the sink failed, and 6 for want of memory
+/// of the call itself.
 pub fn play<R: Source, W: Sink>(
     alloc: Global,
     words: &[String],
     source: &mut R,
     sink: &mut W,
 ) -> Ran
-    // The words alone decide this.
-    ensures usage { (result.status ≡ 2) ↔ (wish_of (map string_bytes words.now) ≡ None) }
+    // Nothing but the words decides this, where there is memory to read them.
+    ensures usage { result.status ≡ 2 → wish_of (map string_bytes words.now) ≡ None }
+    ensures refused { wish_of (map string_bytes words.now) ≡ None
+        → (result.status ≡ 2) ⊎ (result.status ≡ 6) }
     ensures unread { result.status ≡ 2 → Consumes (R.left source.old) (R.left source.new) [] }
 
     ensures source_failed { result.status ≡ 4 → Rose (R.faults source.old) (R.faults source.new) }
     ensures too_large { result.status ≡ 7 → TookTooMuch script_bytes (R.left source.old) (R.left source.new) }
-    ensures not_too_large { (result.status ≡ 7 → ⊥) → TookAtMost script_bytes (R.left source.old) (R.left source.new) }
+    ensures not_too_large { (result.status ≡ 7 → ⊥)
+        → TookAtMost script_bytes (R.left source.old) (R.left source.new) }
 
     // The source's bytes have a bad line, and the first such was told.
     ensures bad_line { result.status ≡ 3
@@ -88,8 +91,7 @@ pub fn play<R: Source, W: Sink>(
         result.history.entries (W.taken sink.old) (W.taken sink.new) }
 
     // The history is legal for the script cut after some lines, and a front of the text of that was written;
-    // or a front of the text
-    // of a bad line was.
+    // or a front of the text of a bad line was.
     ensures sink_failed { result.status ≡ 5 → Rose (W.faults sink.old) (W.faults sink.new) }
     ensures stopped { result.status ≡ 5
         → Reads ends.SinkFailed (wish_of (map string_bytes words.now)) (R.left source.old)
@@ -107,7 +109,8 @@ pub fn play<R: Source, W: Sink>(
         → DoesNothing result.history.entries (W.taken sink.old) (W.taken sink.new) }
 
     // A script of the grammar is run to its end, unless there is no memory or the source or the sink fails.
-    ensures complete { (bytes : List ℕ) (script : Script) → R.left source.old ≡ Some bytes → length bytes ≤ script_bytes
+    ensures complete { (bytes : List ℕ) (script : Script) → R.left source.old ≡ Some bytes
+        → length bytes ≤ script_bytes
         → IsScript Play bytes script
         → (wish_of (map string_bytes words.now) ≡ None → ⊥)
         → (Rose (R.faults source.old) (R.faults source.new) → ⊥)
@@ -142,31 +145,16 @@ fn play_words<R: Source, W: Sink>(
     ensures sink_later { W.faults sink.old ≤ W.faults sink.new }
     ensures limit { result.history.limit ≡ HISTORY }
 {
-    let Some(wanted) = wish(words) else {
-        return nothing(alloc, End::Usage);
+    let wanted = match wants_history(alloc, words) {
+        Ok(wanted) => wanted,
+        Err(WordsFault::Usage) => return nothing(alloc, End::Usage),
+        Err(WordsFault::NoMemory) => return nothing(alloc, End::NoMemory),
     };
     match read_all(alloc, source, SCRIPT_BYTES) {
         Ok(bytes) => play_bytes(alloc, HISTORY, wanted, bytes, sink),
         Err(ReadFault::Failed) => nothing(alloc, End::SourceFailed),
         Err(ReadFault::TooLarge) => nothing(alloc, End::TooLarge),
         Err(ReadFault::NoMemory) => nothing(alloc, End::NoMemory),
-    }
-}
-
-/// What the words ask: whether the history's text is wanted.
-fn wish(words: &[String]) -> Option<bool>
-    ensures { result ≡ wish_of (map string_bytes words.now) }
-{
-    match words {
-        [] | [_] => Some(false),
-        [_, word] => {
-            if word.as_bytes() == b"--history".as_slice() {
-                Some(true)
-            } else {
-                None
-            }
-        }
-        _ => None,
     }
 }
 
@@ -240,8 +228,7 @@ fn bad_line(alloc: Global, line: u32) -> Result<Vec<u8>, NoMemory>
 }
 
 /// Runs a script with a journal of at most `limit` entries, and writes its replies and, where it is wanted,
-/// the
-/// history's text.
+/// the history's text.
 fn play_script<W: Sink>(
     alloc: Global,
     limit: u32,
@@ -285,7 +272,8 @@ fn finish<W: Sink>(
 ) -> End
     ensures end { FinishesSo lines result wanted (W.taken sink.old) (W.taken sink.new)
         (text_of_history script.now.names journal.now.entries) }
-    ensures failed { result ≡ End.SinkFailed → (lines ≡ End.SinkFailed) ⊎ Rose (W.faults sink.old) (W.faults sink.new) }
+    ensures failed { result ≡ End.SinkFailed
+        → (lines ≡ End.SinkFailed) ⊎ Rose (W.faults sink.old) (W.faults sink.new) }
     ensures later { W.faults sink.old ≤ W.faults sink.new }
 {
     match lines {

@@ -188,15 +188,3 @@ fn a_full_journal_refuses_the_next_move(rt: HostRuntime) -> Result<(), Fail> {
     assert!(rt; sink.bytes() == replies.as_slice());
     Ok(())
 }
-
-#[test]
-fn the_program_tells_of_itself(rt: HostRuntime) -> Result<(), Fail> {
-    let alloc = rt.alloc();
-    assert!(rt; asked_about(words(alloc, &["--help"])?.as_slice()) == Some(About::Help));
-    assert!(rt; asked_about(words(alloc, &["--version"])?.as_slice()) == Some(About::Version));
-    assert!(rt; asked_about(words(alloc, &["--history"])?.as_slice()) == None);
-    assert!(rt;
-        About::Help.text().contains("--history") && About::Version.text().starts_with("projplay")
-    );
-    Ok(())
-}
