@@ -12,8 +12,12 @@ use std::time::CpuClock;
 /// How many rows the expression is evaluated for.
 const ROWS: u64 = 1_000_000;
 
-/// The sums of `a * 3 + b` over rows of two numbers, computed over whole columns and row by row, and how long
-/// each took.
+/// How often it is computed over whole columns. In the first turns the memory of the result is touched for
+/// the first time, which takes longer than to compute it.
+const TURNS: u32 = 5;
+
+/// The sums of `a * 3 + b` over rows of two numbers, computed over whole columns, in the last of some turns,
+/// and row by row, and how long each took.
 pub fn timed<R: CpuClock>(rt: &R, alloc: Global) -> anyhow::Result<(Layer, Layer)> {
     let rows = two_columns(alloc)?;
     let expr = triple_and_other(alloc)?;
@@ -21,9 +25,24 @@ pub fn timed<R: CpuClock>(rt: &R, alloc: Global) -> anyhow::Result<(Layer, Layer
         bail!("the expression doesn't fit");
     }
     Ok((
-        by_block(rt, alloc, &expr, &rows)?,
+        by_block_at_last(rt, alloc, &expr, &rows)?,
         by_row(rt, &expr, &rows)?,
     ))
+}
+
+/// The last of some turns.
+fn by_block_at_last<R: CpuClock>(
+    rt: &R,
+    alloc: Global,
+    expr: &Expr,
+    rows: &Rows,
+) -> anyhow::Result<Layer>
+    requires { FitsExpr rows.now.kinds expr.now }
+{
+    'turns: for _turn in 1..TURNS {
+        by_block(rt, alloc, expr, rows)?;
+    }
+    by_block(rt, alloc, expr, rows)
 }
 
 fn by_block<R: CpuClock>(rt: &R, alloc: Global, expr: &Expr, rows: &Rows) -> anyhow::Result<Layer>
