@@ -1,5 +1,6 @@
 mod BodyLaws
 mod Histories
+mod InsertBodies
 mod LegalLemmas
 mod LegalNames
 mod Lines

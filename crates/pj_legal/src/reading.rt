@@ -7,7 +7,7 @@ ghost use Rattle.pj_legal.specs.Faults.{IsParsed};
 use crate::types::{LimitName, Refusal};
 use pj_lex::{LexFault, Token, TokenKind, tokens};
 use pj_parse::types::Statement;
-use pj_parse::{ParseFault, statement};
+use pj_parse::{ParseFault, read_insert, statement};
 use pj_value::NoMemory;
 use std::alloc::Global;
 
@@ -23,8 +23,19 @@ pub enum Parsed {
 /// The most bytes that a text of a statement may have.
 const TEXT: usize = 65_535;
 
-/// The statement of the body, or the first cause why it has none. Takes time linear in the body.
+/// The statement of the body, or the first cause why it has none. Takes time linear in the body. An INSERT is
+/// read without a list of its tokens, if it can be; all else, and each refusal, is told by its tokens.
 pub fn read_statement(alloc: Global, body: &[u8]) -> Result<Parsed, NoMemory>
+    ensures { IfOk result (IsParsed body.now) }
+{
+    match read_insert(alloc, body, TEXT)? {
+        Some(insert) => Ok(Parsed::Statement(insert)),
+        None => read_by_tokens(alloc, body),
+    }
+}
+
+/// The statement of the body by its tokens, or the first cause why it has none.
+fn read_by_tokens(alloc: Global, body: &[u8]) -> Result<Parsed, NoMemory>
     ensures { IfOk result (IsParsed body.now) }
 {
     match tokens(alloc, body) {

@@ -30,18 +30,18 @@ begins-stops [] begins = tt
 begins-stops (b ∷ bs) begins = begins
 
 -- what begins as a token does so with more bytes behind it
-begins-append : (text more : List ℕ) → BeginsToken text → BeginsToken (text ++ more)
+pub begins-append : (text more : List ℕ) → BeginsToken text → BeginsToken (text ++ more)
 begins-append [] more begins = absurd begins
 begins-append (b ∷ bs) more begins = begins
 
 -- behind the blanks before a token, or before a break, are its bytes
-behind_blanks : (bytes blanks rest : List ℕ) → bytes ≡ blanks ++ rest → IsBlank blanks → BeginsToken rest
+pub behind_blanks : (bytes blanks rest : List ℕ) → bytes ≡ blanks ++ rest → IsBlank blanks → BeginsToken rest
     → after_blanks bytes ≡ rest
 behind_blanks bytes blanks rest whole all begins =
     after_blanks-only bytes blanks rest whole all (begins-stops rest begins)
 
 -- nothing is behind blanks alone
-blank-only : (bytes : List ℕ) → IsBlank bytes → after_blanks bytes ≡ []
+pub blank-only : (bytes : List ℕ) → IsBlank bytes → after_blanks bytes ≡ []
 blank-only bytes all = after_blanks-only bytes bytes [] (sym (append-nil bytes)) all tt
 
 -- ---- a token that stands first

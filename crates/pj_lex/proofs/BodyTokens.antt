@@ -130,7 +130,7 @@ first-length here bytes more token first =
     ∙ ap (λ (n : ℕ). length first.blanks + n) (length-append first.text more)
 
 -- a token has bytes
-some_bytes : (text : List ℕ) → BeginsToken text → 0 < length text
+pub some_bytes : (text : List ℕ) → BeginsToken text → 0 < length text
 some_bytes [] h = absurd h
 some_bytes (b ∷ bs) h = omega arith
 

@@ -1,5 +1,6 @@
 pub mod BodyLaws
 pub mod BodyTokens
+pub mod FirstTokens
 pub mod SymbolFront
 pub mod TextPieces
 pub mod TokenBytes

@@ -97,6 +97,14 @@ pub record IsFirst (here : ℕ) (bytes : List ℕ) (token : Token) (more : List 
   pub spelled : Spells token.kind text
   pub ended : Ends token.kind text more
 
+-- behind blanks a token of this kind stands first, with these bytes, and these are behind it
+pub record StandsFirst (bytes : List ℕ) (kind : TokenKind) (text more : List ℕ) : Type 0 where
+  pub blanks : List ℕ
+  pub whole : bytes ≡ blanks ++ (text ++ more)
+  pub blank : IsBlank blanks
+  pub spelled : Spells kind text
+  pub ended : Ends kind text more
+
 -- these tokens stand first, one behind the other, and lead from a place and the bytes there to another
 abbrev pub Lead : ℕ → List ℕ → List Token → ℕ → List ℕ → Type 0
 Lead here bytes [] there rest = (there ≡ here) × (rest ≡ bytes)

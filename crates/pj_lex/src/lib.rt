@@ -3,6 +3,7 @@
 
 pub mod bytes;
 mod cutting;
+pub mod front;
 mod laws;
 mod scan;
 mod stuck;

@@ -23,7 +23,7 @@ pub fn skip_blanks(bytes: &[u8]) -> &[u8]
 }
 
 /// The number of these digits, if it has at most 64 bits.
-fn number_of(digits: &[u8]) -> Option<u64>
+pub fn number_of(digits: &[u8]) -> Option<u64>
     requires { AllAre is_digit digits.now }
     ensures { let n = digits_value digits.now in result ≡ (if nat_lt n (2 ^ 64) then Some n else None) }
 {
@@ -37,7 +37,7 @@ fn number_of(digits: &[u8]) -> Option<u64>
 }
 
 /// Whether a letter, a digit or `_` is next.
-fn goes_on(bytes: &[u8]) -> bool
+pub fn goes_on(bytes: &[u8]) -> bool
     ensures { result ≡ goes_on bytes.now }
 {
     match bytes {

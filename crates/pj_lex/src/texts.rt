@@ -1,5 +1,6 @@
 //! Texts: what stands between two quotes, piece by piece.
 ghost use Rattle.std.specs.Prelude.{◌≡◌};
+ghost use Rattle.pj_lex.specs.declared.token.TokenKind.TheVariants as kinds;
 ghost use Rattle.pj_lex.specs.TokenReading.{Gives, escaped, Steps, pieces_at, text_of};
 
 use crate::stuck::Stuck;
@@ -53,13 +54,14 @@ fn next_piece(bytes: &[u8]) -> Piece<'_>
     }
 }
 
-/// The text in front, whose bytes these are from its first quote on and inside it.
-pub fn read_text<'a>(
+/// The text whose first quote stands before the bytes inside, and the bytes behind it. Where it has no end,
+/// the place is told by `bytes`.
+pub fn text_inside<'a>(
     alloc: Global,
     bytes: &'a [u8],
     inside: &'a [u8],
-) -> Result<(TokenKind, &'a [u8]), Stuck<'a>>
-    ensures { Gives (λ x. (x.0, x.1.now)) result (text_of bytes.now (pieces_at inside.now)) }
+) -> Result<(Text, &'a [u8]), Stuck<'a>>
+    ensures { Gives (λ x. (kinds.Text x.0, x.1.now)) result (text_of bytes.now (pieces_at inside.now)) }
 {
     let mut text = Vec::new(alloc);
     let mut rest = inside;
@@ -69,9 +71,23 @@ pub fn read_text<'a>(
                 text.push(byte)?;
                 rest = behind;
             }
-            Piece::Close(behind) => return Ok((TokenKind::Text(Text::from_vec(text)), behind)),
+            Piece::Close(behind) => return Ok((Text::from_vec(text), behind)),
             Piece::BadEscape => return Err(Stuck::At(rest)),
             Piece::NoEnd => return Err(Stuck::At(bytes)),
         }
+    }
+}
+
+/// The text in front as a token.
+pub fn read_text<'a>(
+    alloc: Global,
+    bytes: &'a [u8],
+    inside: &'a [u8],
+) -> Result<(TokenKind, &'a [u8]), Stuck<'a>>
+    ensures { Gives (λ x. (x.0, x.1.now)) result (text_of bytes.now (pieces_at inside.now)) }
+{
+    match text_inside(alloc, bytes, inside) {
+        Ok((text, behind)) => Ok((TokenKind::Text(text), behind)),
+        Err(stuck) => Err(stuck),
     }
 }

@@ -1,6 +1,7 @@
 pub mod WordSpelling
 pub mod TokenPlaces
 pub mod LexemeKinds
+pub mod InsertLines
 pub mod KindLemmas
 pub mod WordKinds
 pub mod TestKinds
@@ -23,6 +24,7 @@ pub mod RulesSelects
 pub mod RulesTables
 pub mod RulesStatements
 pub mod WholeLine
+pub mod FrontLemmas
 pub mod SyntaxPlaces
 pub mod LineBlanks
 pub mod LineLoop

@@ -11,6 +11,7 @@ pub mod GrammarSelects
 pub mod GrammarTables
 pub mod GrammarStatements
 pub mod Statements
+pub mod Inserts
 pub mod StatementLaws
 pub mod Parsing
 pub mod Given

@@ -3,6 +3,7 @@
 
 mod actions;
 mod calls;
+mod inserts;
 mod laws;
 mod lines;
 mod names;
@@ -21,6 +22,7 @@ mod value_rows;
 mod values;
 mod words;
 
+pub use inserts::read_insert;
 pub use laws::{line_or_place, one_place, one_statement};
 pub use lines::{
     ScriptFault, lines_rise, no_script_with_a_bad_line, one_bad_line, one_reading, script,

@@ -1,6 +1,7 @@
 use crate::types::{Statement, Tree, TreeItem, TreeOp};
-use crate::{ParseFault, statement};
+use crate::{ParseFault, read_insert, statement};
 use pj_lex::tokens;
+use pj_value::Value;
 use std::alloc::Global;
 use std::process::Abort;
 use std::test::*;
@@ -60,6 +61,55 @@ fn a_select_is_read(rt: HostRuntime) {
             Err(fault) => assert!(rt; false, "{fault} in place of a statement"),
         },
         Err(fault) => assert!(rt; false, "{fault} in place of tokens"),
+    }
+}
+
+/// Whether it is `INSERT INTO t (k, s) VALUES (1, ''), (2, 'a''b')`.
+fn is_wanted_insert(read: &Statement) -> bool {
+    let Statement::Insert {
+        table,
+        columns: Some(columns),
+        rows,
+    } = read
+    else {
+        return false;
+    };
+    table.as_slice() == b"t".as_slice()
+        && columns.as_slice().len() == 2
+        && rows.len() == 2
+        && is_wanted_row(rows.row(1))
+}
+
+fn is_wanted_row(row: &[Value]) -> bool {
+    match row {
+        [Value::Num(n), Value::Text(text)] => *n == 2 && text.as_slice() == b"a'b".as_slice(),
+        _ => false,
+    }
+}
+
+#[test]
+fn an_insert_is_read_at_once(rt: HostRuntime) {
+    let body = b"insert INTO t(k, s)VALUES(1, ''),\t(2 , 'a''b') ;";
+    match read_insert(rt.alloc(), body, 3) {
+        Ok(Some(read)) => assert!(rt; is_wanted_insert(&read), "another INSERT"),
+        _ => assert!(rt; false, "no INSERT"),
+    }
+}
+
+#[test]
+fn what_is_no_plain_insert_is_left(rt: HostRuntime) {
+    let bodies: [&[u8]; 5] = [
+        b"INSERT INTO t VALUES (1), (",
+        b"INSERT INTO t VALUES (1) (2)",
+        b"INSERT INTO t VALUES ('abcd')",
+        b"INSERT INTO min VALUES (1)",
+        b"SELECT k FROM t",
+    ];
+    for body in &bodies {
+        match read_insert(rt.alloc(), *body, 3) {
+            Ok(None) => {}
+            _ => assert!(rt; false, "an INSERT"),
+        }
     }
 }
 

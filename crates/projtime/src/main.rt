@@ -8,7 +8,7 @@ mod reading;
 
 use layer::Layer;
 use pj_io::{ReaderSource, read_all};
-use std::io::{Eprint, Print};
+use std::io::Print;
 use std::rt::Env;
 use std::{env, io};
 
@@ -20,9 +20,18 @@ fn main(rt: HostRuntime) -> anyhow::Result<()> {
     match word.as_deref() {
         Some("read") => {
             let bytes = read_all(rt.alloc(), &mut ReaderSource::new(rt.stdin()), SCRIPT_BYTES)?;
-            tell(&rt, reading::timed(&rt, rt.alloc(), bytes.as_slice())?)
+            let reading = reading::timed(&rt, rt.alloc(), bytes.as_slice())?;
+            reading.inserts.tell(&rt)?;
+            reading.tokens.tell(&rt)?;
+            reading.statements.tell(&rt)?;
+            Ok(())
         }
-        Some("eval") => tell(&rt, evaluation::timed(&rt, rt.alloc())?),
+        Some("eval") => {
+            let (column, rows) = evaluation::timed(&rt, rt.alloc())?;
+            column.tell(&rt)?;
+            rows.tell(&rt)?;
+            Ok(())
+        }
         _ => usage(&rt),
     }
 }
@@ -34,13 +43,5 @@ fn second_word<R: Env + AllocGlobal>(rt: &R) -> io::Result<Option<String>> {
 
 fn usage<R: Print>(rt: &R) -> anyhow::Result<()> {
     println!(rt; "usage: projtime read < script, or projtime eval")?;
-    Ok(())
-}
-
-/// Writes what two layers did, and how long they took.
-fn tell<R: Print + Eprint>(rt: &R, layers: (Layer, Layer)) -> anyhow::Result<()> {
-    let (first, second) = layers;
-    first.tell(rt)?;
-    second.tell(rt)?;
     Ok(())
 }

@@ -1,28 +1,68 @@
-//! Reading: what it takes to cut the bodies of a script into tokens, and to parse these.
+//! Reading: what it takes to read the bodies of a script.
 ghost use Rattle.std.specs.Prelude.{◌≤◌, length, IfOk};
 ghost use Rattle.pj_lex.specs.Tokens.{AreTokens};
 
 use crate::layer::{Layer, since};
 use pj_lex::{Token, tokens};
 use pj_parse::types::{Act, ScriptMode};
-use pj_parse::{script, statement};
+use pj_parse::{read_insert, script, statement};
 use std::alloc::Global;
 use std::time::CpuClock;
 
-/// How many tokens and statements a script has, and how long `tokens` and `statement` took for them. What is
-/// let go again, and all else, is not in these times.
-pub fn timed<R: CpuClock>(rt: &R, alloc: Global, bytes: &[u8]) -> anyhow::Result<(Layer, Layer)>
+/// The most bytes that a text of a statement may have.
+const TEXT: usize = 65_535;
+
+/// What reads the bodies of a script, layer by layer.
+#[derive(Debug, Drop)]
+pub struct Reading {
+    /// `read_insert`, and how many INSERTs it read. Each body is given to it.
+    pub inserts: Layer,
+    /// `tokens`, and how many there are in the other bodies.
+    pub tokens: Layer,
+    /// `statement`, and how many of these there are.
+    pub statements: Layer,
+}
+
+/// How long `read_insert`, `tokens` and `statement` took for the bodies of a script, in the order in which
+/// the server calls them. What is let go again, and all else, is not in these times.
+pub fn timed<R: CpuClock>(rt: &R, alloc: Global, bytes: &[u8]) -> anyhow::Result<Reading>
     requires { length bytes.now ≤ 4294967295 }
 {
     let script = script(alloc, bytes, ScriptMode::Play)?;
-    let mut cutting = Layer::new("tokens");
-    let mut parsing = Layer::new("statements");
+    let mut reading = Reading {
+        inserts: Layer::new("inserts"),
+        tokens: Layer::new("tokens"),
+        statements: Layer::new("statements"),
+    };
     'lines: for line in script.lines.as_slice() {
         let Act::Whole(body) = &line.act;
-        let found = cut(rt, alloc, body.as_slice(), &mut cutting)?;
-        parse(rt, alloc, body.as_slice(), found.as_slice(), &mut parsing)?;
+        if !insert(rt, alloc, body.as_slice(), &mut reading.inserts)? {
+            let found = cut(rt, alloc, body.as_slice(), &mut reading.tokens)?;
+            parse(
+                rt,
+                alloc,
+                body.as_slice(),
+                found.as_slice(),
+                &mut reading.statements,
+            )?;
+        }
     }
-    Ok((cutting, parsing))
+    Ok(reading)
+}
+
+/// Whether the body is an INSERT that is read in one pass.
+fn insert<R: CpuClock>(
+    rt: &R,
+    alloc: Global,
+    body: &[u8],
+    layer: &mut Layer,
+) -> anyhow::Result<bool> {
+    let start = rt.thread_cpu_time()?;
+    let read = read_insert(alloc, body, TEXT);
+    let took = since(rt, start)?;
+    let is_read = read?.is_some();
+    layer.add(if is_read { 1 } else { 0 }, took);
+    Ok(is_read)
 }
 
 /// The tokens of a body.

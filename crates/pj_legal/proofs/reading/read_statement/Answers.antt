@@ -1,0 +1,5 @@
+use Rattle.pj_legal.proofs.InsertBodies.{insert_reads}
+use Rattle.pj_legal.proofs.reading.read_statement.Goals as goal
+
+pub returns-in-Some : goal.returns-in-Some
+returns-in-Some c = ?
