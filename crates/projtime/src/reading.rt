@@ -50,7 +50,7 @@ pub fn timed<R: CpuClock>(rt: &R, alloc: Global, bytes: &[u8]) -> anyhow::Result
     Ok(reading)
 }
 
-/// Whether the body is an INSERT that is read in one pass.
+/// Whether the body is an INSERT that is read at once.
 fn insert<R: CpuClock>(
     rt: &R,
     alloc: Global,
@@ -60,9 +60,12 @@ fn insert<R: CpuClock>(
     let start = rt.thread_cpu_time()?;
     let read = read_insert(alloc, body, TEXT);
     let took = since(rt, start)?;
-    let is_read = read?.is_some();
-    layer.add(if is_read { 1 } else { 0 }, took);
-    Ok(is_read)
+    let Some(_insert) = read? else {
+        layer.add(0, took);
+        return Ok(false);
+    };
+    layer.add(1, took);
+    Ok(true)
 }
 
 /// The tokens of a body.
