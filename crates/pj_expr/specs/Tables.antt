@@ -1,5 +1,6 @@
--- Tables: their names, and the kinds of their columns (docs/MODEL.md, "Histories").
-use Rattle.std.specs.Prelude.{ℕ, List, map}
+-- Tables: their names, the kinds of their columns, and which may be made (docs/MODEL.md, "Histories").
+use Rattle.std.specs.Prelude.{◌<◌, ◌≤◌, ℕ, List, length, map}
+use Rattle.std.specs.List.{AllByRecursion}
 use Rattle.pj_value.specs.declared.value.Kind.{Kind}
 use Rattle.pj_expr.specs.declared.table.Table.{Table}
 
@@ -10,3 +11,14 @@ names tables = map (λ table. table.name) tables
 -- the kinds of a table's columns
 abbrev pub kinds_of : Table → List Kind
 kinds_of table = map (λ column. column.kind) table.columns
+
+-- how many rows a granule may have
+abbrev pub granule_limit : ℕ
+granule_limit = 65536
+
+-- the table has a key, of columns that are there, and granules of at least one row and not too many
+pub record TableFits (table : Table) : Type 0 where
+  pub keyed : 1 ≤ length table.key
+  pub within : AllByRecursion (λ place. place < length table.columns) table.key
+  pub some_rows : 1 ≤ table.granularity
+  pub few_rows : table.granularity ≤ granule_limit
