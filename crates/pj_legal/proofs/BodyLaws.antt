@@ -19,7 +19,7 @@ use Rattle.pj_bind.specs.Laws.{HasUniqueNames}
 use Rattle.pj_bind.proofs.BindLaws.{one_refusal, bound_or_refused}
 use Rattle.pj_legal.specs.Binding.{HasLongText, BodyReads, IsOffGrammar, HasManyTokens, HasLongLine}
 use Rattle.pj_legal.specs.Binding.{IsUnreadable, BodyBinds, BodyIsRefused}
-use Rattle.pj_lex.proofs.BodyLaws.{one_list, tokens_or_break, one_break}
+use Rattle.pj_lex.proofs.BodyLaws.{one_list, no_tokens_with_a_break, one_break}
 use Rattle.pj_parse.proofs.WholeLine.{one_statement, one_place}
 use Rattle.pj_legal.specs.Laws.{HasOneMeaning, OneBodyReading}
 use Rattle.pj_legal.specs.Laws.{BodyBoundOrRefused, OneBodyRefusal}
@@ -60,7 +60,8 @@ module _ (laws : HasOneMeaning) (body : List ℕ) where
   -- a body that is read has no cause against it
   pub BodyReads-readable : (statement : Statement) (refusal : Refusal) → BodyReads body statement
       → IsUnreadable body refusal → ⊥
-  BodyReads-readable statement (Syntax at) r (inl breaks) = laws.tokens_or_break body r.tokens at r.are breaks
+  BodyReads-readable statement (Syntax at) r (inl breaks) =
+      laws.no_tokens_with_a_break body r.tokens at r.are breaks
   BodyReads-readable statement (Syntax at) r (inr off) = no_line at r.tokens statement off r.are r.line
   BodyReads-readable statement (Limit Tokens) r many = not_few r.tokens many r.are r.few
   BodyReads-readable statement (Limit Text) r long =
@@ -80,18 +81,18 @@ module _ (laws : HasOneMeaning) (body : List ℕ) where
   -- two places of syntax errors are one
   one_syntax : (a b : ℕ) → IsUnreadable body (Syntax a) → IsUnreadable body (Syntax b) → a ≡ b
   one_syntax a b (inl r) (inl s) = laws.one_break body a b r s
-  one_syntax a b (inl r) (inr s) = absurd (laws.tokens_or_break body s.tokens a s.are r)
-  one_syntax a b (inr r) (inl s) = absurd (laws.tokens_or_break body r.tokens b r.are s)
+  one_syntax a b (inl r) (inr s) = absurd (laws.no_tokens_with_a_break body s.tokens a s.are r)
+  one_syntax a b (inr r) (inl s) = absurd (laws.no_tokens_with_a_break body r.tokens b r.are s)
   one_syntax a b (inr r) (inr s) = one_off a b r s
 
   -- a body with a syntax error has not too many tokens
   syntax_few : (at : ℕ) → IsUnreadable body (Syntax at) → HasManyTokens body → ⊥
-  syntax_few at (inl breaks) many = laws.tokens_or_break body many.0 at many.1 breaks
+  syntax_few at (inl breaks) many = laws.no_tokens_with_a_break body many.0 at many.1 breaks
   syntax_few at (inr off) many = not_few off.tokens many off.are off.few
 
   -- and is no statement's line
   syntax_short : (at : ℕ) → IsUnreadable body (Syntax at) → HasLongLine body → ⊥
-  syntax_short at (inl breaks) long = laws.tokens_or_break body long.tokens at long.are breaks
+  syntax_short at (inl breaks) long = laws.no_tokens_with_a_break body long.tokens at long.are breaks
   syntax_short at (inr off) long = no_line at long.tokens long.statement off long.are long.line
 
   -- a body can't be read for one first cause
@@ -161,7 +162,7 @@ OneBodyRefusal-from laws = λ tables body. BodyIsRefused-one laws body tables
 pub one_meaning : HasOneMeaning
 one_meaning = record {
   one_list = one_list;
-  tokens_or_break = tokens_or_break;
+  no_tokens_with_a_break = no_tokens_with_a_break;
   one_break = one_break;
   one_statement = one_statement;
   one_place = one_place;

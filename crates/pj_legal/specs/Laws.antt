@@ -3,7 +3,7 @@ use Rattle.std.specs.Prelude.{◌≡◌, ℕ, ◌≤◌, List, [], ◌∷◌, �
 use Rattle.std.specs.Prelude.{Some, slice_get, ◌<◌, ◌^◌, ◌⊎◌, Contains, nat_lt}
 use Rattle.std.specs.List.{AllByRecursion, AllZip}
 use Rattle.std.specs.Fmt.{decimal}
-use Rattle.pj_lex.specs.Laws.{OneList, TokensOrBreak, OneBreak}
+use Rattle.pj_lex.specs.Laws.{OneList, NoTokensWithABreak, OneBreak}
 use Rattle.pj_parse.specs.declared.types.Script.{Script}
 use Rattle.pj_parse.specs.declared.types.Statement.{Statement}
 use Rattle.pj_parse.specs.Lines.{IsName}
@@ -77,7 +77,7 @@ NamesAreUnique = (h : List Entry) → IsRegular h → HasUniqueNames (catalog h)
 -- the laws of tokens and of the grammar, by which a body has one meaning
 pub record HasOneMeaning : Type 0 where
   pub one_list : OneList
-  pub tokens_or_break : TokensOrBreak
+  pub no_tokens_with_a_break : NoTokensWithABreak
   pub one_break : OneBreak
   pub one_statement : OneStatement
   pub one_place : OnePlace

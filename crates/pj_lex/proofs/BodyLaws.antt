@@ -1,15 +1,16 @@
--- A body has one list of tokens, or one place where it breaks.
-use Rattle.std.proofs.Common.{◌≡◌, ℕ, ◌+◌, List, [], ◌∷◌, ◌++◌, Option, Some, None}
-use Rattle.std.proofs.Common.{Err, length, refl, sym, ap, subst, ◌∙◌, arith}
+-- A body has one list of tokens, or it has one place where it breaks.
+use Rattle.std.proofs.Common.{◌≡◌, ℕ, zero, suc, ◌+◌, ◌-◌, ◌<◌, ◌⊎◌, inl, inr, List, [], ◌∷◌, ◌++◌}
+use Rattle.std.proofs.Common.{Option, Some, None, Ok, Err, length, refl, sym, ap, subst, ◌∙◌, arith}
 use Rattle.std.proofs.lemmas.List.{append-nil, length-append, drop_at}
 use Rattle.std.proofs.lemmas.Option.{none-some}
 use Rattle.pj_lex.specs.declared.token.Token.{Token}
 use Rattle.pj_lex.specs.declared.token.TokenKind.{TokenKind}
 use Rattle.pj_lex.specs.Bytes.{is_blank, IsBlank}
 use Rattle.pj_lex.specs.Tokens.{StopsAt, IsFirst, Lead, AreTokens, BreaksAt}
-use Rattle.pj_lex.specs.Laws.{OneList, TokensOrBreak, OneBreak}
+use Rattle.pj_lex.specs.Laws.{OneList, TokensOrBreak, NoTokensWithABreak, OneBreak}
 use Rattle.pj_lex.specs.TokenReading.{Found, Read, after_blanks, token_at}
 use Rattle.pj_lex.specs.BodyReading.{BreaksFrom}
+use Rattle.pj_lex.proofs.BodyTokens.{all_blank, first_is_read, break_is_read, first-shorter, Lead-breaks}
 use Rattle.pj_lex.proofs.TokenBytes.{run_is}
 use Rattle.pj_lex.proofs.TokenFront.{found, token_at-only, token_at-bad, BeginsToken}
 use Rattle.pj_lex.proofs.TokenFront.{begins_token, begins_bad}
@@ -176,12 +177,59 @@ end_one here bytes (Some a) None breaks blank =
 end_one here bytes (Some a) (Some b) breaks other =
     ap (λ (n : ℕ). Some n) (break_one here bytes a b breaks other)
 
--- ---- the laws
+-- ---- tokens up to an end
 
 -- the tokens from here on, and what is behind them
 abbrev Has : ℕ → List ℕ → List Token → Option ℕ → Type 0
 Has here bytes tokens end =
     (there : ℕ) × (rest : List ℕ) × Lead here bytes tokens there rest × IsEnd there rest end
+
+-- an end is here, or a token stands first
+abbrev Begins : ℕ → List ℕ → Type 0
+Begins here bytes =
+    ((end : Option ℕ) × IsEnd here bytes end)
+    ⊎ ((token : Token) × (more : List ℕ) × IsFirst here bytes token more)
+
+-- so it is by what is read behind the blanks
+begins-read : (here : ℕ) (bytes : List ℕ) (read : Read) → 0 < length (after_blanks bytes)
+    → token_at (after_blanks bytes) ≡ read → Begins here bytes
+begins-read here bytes (Ok (kind, behind)) some e =
+    let place : here + length bytes - length bytes ≡ here = omega arith in
+    let first = first_is_read (here + length bytes) bytes (omega arith) kind behind some e in
+    inr (
+      record {
+        kind = kind;
+        at = here + length bytes - length (after_blanks bytes);
+        end = here + length bytes - length behind;
+      },
+      behind,
+      rw place at first,
+    )
+begins-read here bytes (Err stuck) some e =
+    let place : here + length bytes - length bytes ≡ here = omega arith in
+    let breaks = break_is_read (here + length bytes) bytes (omega arith) stuck some e in
+    inl (Some (here + length bytes - length stuck), rw place at breaks)
+
+-- and by the bytes behind the blanks
+begins-by : (here : ℕ) (bytes behind : List ℕ) → after_blanks bytes ≡ behind → Begins here bytes
+begins-by here bytes [] e = inl (None, all_blank bytes e)
+begins-by here bytes (b ∷ bs) e =
+    begins-read here bytes (token_at (after_blanks bytes)) (rw e (omega arith)) refl
+
+-- bytes have some tokens, and an end behind them
+some_has : (n here : ℕ) (bytes : List ℕ) → length bytes < n
+    → (tokens : List Token) × (end : Option ℕ) × Has here bytes tokens end
+some_has zero here bytes less = absurd (omega arith)
+some_has (suc n) here bytes less =
+    elim (begins-by here bytes (after_blanks bytes) refl) [
+      | inl (end, is) ↦ ([], end, (here, bytes, (refl, refl), is))
+      | inr (t, more, first) ↦
+          let shorter = first-shorter here bytes more t first in
+          let (ts, end, (there, rest, lead, is)) = some_has n t.end more (omega arith) in
+          (t ∷ ts, end, (there, rest, (more, first, lead), is))
+    ]
+
+-- ---- the laws
 
 -- behind no tokens the end is here
 has-end : (here : ℕ) (bytes : List ℕ) (end : Option ℕ) → Has here bytes [] end → IsEnd here bytes end
@@ -229,9 +277,19 @@ has-break body at breaks = (
 pub one_list : OneList
 one_list body a b are other = (one 0 body a b None None (has-tokens body a are) (has-tokens body b other)).0
 
--- no body both has tokens and breaks
+-- a body has tokens, or it breaks
 pub tokens_or_break : TokensOrBreak
-tokens_or_break body tokens at are breaks =
+tokens_or_break body = by_end (some_has (suc (length body)) 0 body (omega arith))
+  where
+    by_end : (tokens : List Token) × (end : Option ℕ) × Has 0 body tokens end
+        → ((tokens : List Token) × AreTokens body tokens) ⊎ ((at : ℕ) × BreaksAt body at)
+    by_end (tokens, None, (there, rest, lead, blank)) = inl (tokens, (there, rest, lead, blank))
+    by_end (tokens, Some at, (there, rest, lead, breaks)) =
+        inr (at, Lead-breaks body rest tokens there at lead breaks)
+
+-- a body that breaks has no tokens
+pub no_tokens_with_a_break : NoTokensWithABreak
+no_tokens_with_a_break body tokens at are breaks =
     none-some at (one 0 body tokens breaks.tokens None (Some at) (has-tokens body tokens are)
     (has-break body at breaks)).1
 

@@ -1,5 +1,5 @@
 -- Laws of tokens.
-use Rattle.std.specs.Prelude.{◌≡◌, ℕ, List}
+use Rattle.std.specs.Prelude.{◌≡◌, ℕ, ◌⊎◌, List}
 use Rattle.pj_lex.specs.declared.token.Token.{Token}
 use Rattle.pj_lex.specs.Tokens.{AreTokens, BreaksAt}
 
@@ -7,9 +7,15 @@ use Rattle.pj_lex.specs.Tokens.{AreTokens, BreaksAt}
 abbrev pub OneList : Type 0
 OneList = (body : List ℕ) (a b : List Token) → AreTokens body a → AreTokens body b → a ≡ b
 
--- no body both has tokens and breaks
+-- a body has tokens, or it breaks
 abbrev pub TokensOrBreak : Type 0
-TokensOrBreak = (body : List ℕ) (tokens : List Token) (at : ℕ) → AreTokens body tokens → BreaksAt body at → ⊥
+TokensOrBreak =
+    (body : List ℕ) → ((tokens : List Token) × AreTokens body tokens) ⊎ ((at : ℕ) × BreaksAt body at)
+
+-- a body that breaks has no tokens
+abbrev pub NoTokensWithABreak : Type 0
+NoTokensWithABreak =
+    (body : List ℕ) (tokens : List Token) (at : ℕ) → AreTokens body tokens → BreaksAt body at → ⊥
 
 -- a body breaks at one place
 abbrev pub OneBreak : Type 0

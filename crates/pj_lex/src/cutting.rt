@@ -59,7 +59,7 @@ fn next_token(alloc: Global, size: usize, rest: &[u8]) -> Result<Option<(Token, 
 pub fn tokens(alloc: Global, body: &[u8]) -> Result<Vec<Token>, LexFault>
     ensures tokens { IfOk result (λ found. AreTokens body.now found.items) }
 
-    // No body both has tokens and breaks (`tokens_or_break`),
+    // A body has tokens or breaks (`tokens_or_break`), and none does both (`no_tokens_with_a_break`),
     // so these leave one answer beside want of memory.
     ensures bad { IfErr result (HasLexCause body.now) }
 {

@@ -11,7 +11,7 @@ mod texts;
 mod token;
 
 pub use cutting::{LexFault, tokens};
-pub use laws::{one_break, one_list, tokens_or_break};
+pub use laws::{no_tokens_with_a_break, one_break, one_list, tokens_or_break};
 pub use token::{Symbol, Token, TokenKind};
 
 #[cfg(test)]
