@@ -31,10 +31,11 @@ pub Consumes-told : (a b : Option (List ℕ)) (bytes : List ℕ) → Consumes a 
     → IfSome a (λ xs. bytes ≡ xs)
 Consumes-told a b bytes p end = Consumes-whole a b bytes (λ xs. bytes ≡ xs) p end refl
 
--- what was appended so far is a front of all
-pub AppendsPart-front : (a b : Option (List ℕ)) (all done rest : List ℕ) → all ≡ done ++ rest
-    → Appends a b done → AppendsPart a b all
-AppendsPart-front a b all done rest e p = (
+-- where bytes are left, what was appended so far is a proper prefix of all
+pub AppendsPart-prefix : (a b : Option (List ℕ)) (all done rest : List ℕ) → all ≡ done ++ rest
+    → 0 < length rest → Appends a b done → AppendsPart a b all
+AppendsPart-prefix a b all done rest e more p = (
   length done,
+  omega (arith, more, ap length e, length-append done rest),
   subst (Appends a b) (sym (ap (take (length done)) e ∙ take_at done rest (length done) refl)) p,
 )

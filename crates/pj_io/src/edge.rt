@@ -38,6 +38,7 @@ impl<R: Read> Source for ReaderSource<R> {
             (R.remaining self.new.inner) result into.new }
         ensures later { self.old.faults ≤ self.new.faults }
         ensures failed { OnErr result (Rose self.old.faults self.new.faults) }
+        ensures calm { IfOk result (λ _. self.new.faults ≡ self.old.faults) }
 
         ensures exact { self.new.faults
             ≡ (if is_err result then raised self.old.faults else self.old.faults) }
@@ -107,6 +108,7 @@ impl<W: Write> Sink for WriterSink<W> {
             (W.contents self.new.inner) result bytes.now }
         ensures later { self.old.faults ≤ self.new.faults }
         ensures failed { result ≡ Err GiveFault.Failed → Rose self.old.faults self.new.faults }
+        ensures calm { (result ≡ Err GiveFault.Failed → ⊥) → self.new.faults ≡ self.old.faults }
 
         ensures exact { self.new.faults
             ≡ (if is_err result then raised self.old.faults else self.old.faults) }

@@ -100,6 +100,7 @@ impl Source for MemorySource {
         ensures bytes { ReadConsumes (Some self.old.left) (Some self.new.left) result into.new }
         ensures later { self.old.calls.faults ≤ self.new.calls.faults }
         ensures failed { OnErr result (Rose self.old.calls.faults self.new.calls.faults) }
+        ensures calm { IfOk result (λ _. self.new.calls.faults ≡ self.old.calls.faults) }
 
         ensures count { IfOk result
             (λ n. n ≡ min (length self.old.left) (min self.old.piece (length into.old))) }
@@ -170,6 +171,8 @@ impl Sink for MemorySink {
         ensures bytes { WriteAppends (Some self.old.taken) (Some self.new.taken) result bytes.now }
         ensures later { self.old.calls.faults ≤ self.new.calls.faults }
         ensures failed { result ≡ Err GiveFault.Failed → Rose self.old.calls.faults self.new.calls.faults }
+        ensures calm { (result ≡ Err GiveFault.Failed → ⊥)
+            → self.new.calls.faults ≡ self.old.calls.faults }
 
         ensures count { IfOk result (λ n. n ≡ min self.old.piece (length bytes.now)) }
         ensures due { (result ≡ Err GiveFault.Failed) ↔ IsTrue (is_due self.old.calls) }

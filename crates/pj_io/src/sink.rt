@@ -25,11 +25,12 @@ pub trait Sink {
     // How many calls failed, up to the last u64.
     ghost faults: { Self → ℕ };
 
-    /// Takes a front of `bytes` and says how long it is. A call that fails takes none.
+    /// Takes a prefix of `bytes` and says how long it is. A call that fails takes none.
     fn give(&mut self, bytes: &[u8]) -> Result<usize, GiveFault>
         ensures bound { WritesAtMost result bytes.now }
         ensures some { IfOk result (λ n. 0 < length bytes.now → 0 < n) }
         ensures bytes { WriteAppends (taken self.old) (taken self.new) result bytes.now }
         ensures later { faults self.old ≤ faults self.new }
-        ensures failed { result ≡ Err GiveFault.Failed → Rose (faults self.old) (faults self.new) };
+        ensures failed { result ≡ Err GiveFault.Failed → Rose (faults self.old) (faults self.new) }
+        ensures calm { (result ≡ Err GiveFault.Failed → ⊥) → faults self.new ≡ faults self.old };
 }

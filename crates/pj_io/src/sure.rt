@@ -46,6 +46,7 @@ impl Source for SureSource {
         ensures bytes { ReadConsumes (Some self.old) (Some self.new) result into.new }
         ensures later { 0 ≤ 0 }
         ensures failed { OnErr result (Rose 0 0) }
+        ensures calm { IfOk result (λ _. ◌≡◌ {A = ℕ} 0 0) }
         ensures count { result ≡ Ok (min (length self.old) (length into.old)) }
     {
         let rest = &self.bytes[self.at..];
@@ -100,6 +101,7 @@ impl Sink for SureSink {
         ensures bytes { WriteAppends (Some self.old) (Some self.new) result bytes.now }
         ensures later { 0 ≤ 0 }
         ensures failed { result ≡ Err GiveFault.Failed → Rose 0 0 }
+        ensures calm { (result ≡ Err GiveFault.Failed → ⊥) → ◌≡◌ {A = ℕ} 0 0 }
         ensures count { IfOk result (λ n. n ≡ length bytes.now) }
     {
         match self.bytes.extend_from_slice(bytes) {

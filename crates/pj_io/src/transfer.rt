@@ -63,6 +63,7 @@ pub fn read_all<R: Source>(
 
     ensures later { R.faults source.old ≤ R.faults source.new }
     ensures failed { result ≡ Err ReadFault.Failed → Rose (R.faults source.old) (R.faults source.new) }
+    ensures calm { (result ≡ Err ReadFault.Failed → ⊥) → R.faults source.new ≡ R.faults source.old }
 {
     let mut bytes = Vec::new(alloc);
     let mut chunk = [0u8; CHUNK];
@@ -88,6 +89,7 @@ pub fn write_all<W: Sink>(sink: &mut W, bytes: &[u8]) -> Result<(), GiveFault>
 
     ensures later { W.faults sink.old ≤ W.faults sink.new }
     ensures failed { result ≡ Err GiveFault.Failed → Rose (W.faults sink.old) (W.faults sink.new) }
+    ensures calm { (result ≡ Err GiveFault.Failed → ⊥) → W.faults sink.new ≡ W.faults sink.old }
 {
     let mut rest = bytes;
     'pieces: while !rest.is_empty() {
