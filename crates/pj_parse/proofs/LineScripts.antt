@@ -14,7 +14,8 @@ use Rattle.pj_parse.specs.declared.lines.ScriptFault.{ScriptFault}
 use Rattle.pj_parse.specs.declared.lines.ScriptFault.TheVariants as faults
 use Rattle.pj_parse.specs.Lines.{pieces, IsSkipped, Numbers, names_limit, SpellsLine}
 use Rattle.pj_parse.specs.Lines.{AreLines, IsScript, IsBadLine, HasLineCause}
-use Rattle.pj_parse.specs.LineLaws.{OneReading, NoScriptWithABadLine, OneBadLine, RisesFrom, LinesRise}
+use Rattle.pj_parse.specs.LineLaws.{OneReading, ScriptOrBadLine, NoScriptWithABadLine, OneBadLine}
+use Rattle.pj_parse.specs.LineLaws.{RisesFrom, LinesRise}
 use Rattle.pj_parse.specs.ReadingLines.{◌>>=◌, Gives, or_bad, behind_blanks, is_skipped, name_and_rest}
 use Rattle.pj_parse.specs.ReadingLines.{body_of, numbered, line_at, lines_at, script_of}
 use Rattle.pj_parse.proofs.LineSpelling.{IsSkipped-from, is_skipped-is, SpellsAct-from, reads_act}
@@ -442,6 +443,15 @@ line_is_bad mode bytes (Err faults.NoMemory) given = tt
 pub one_reading : OneReading
 one_reading mode bytes a b first second =
     ok_is a b (sym (script_of-is mode bytes a first) ∙ script_of-is mode bytes b second)
+
+-- bytes are read as a script, or up to a bad line
+pub script_or_bad_line : ScriptOrBadLine
+script_or_bad_line mode bytes = go (script_of mode bytes) refl
+  where
+    go : (read : Result Script ℕ) → script_of mode bytes ≡ read
+        → ((script : Script) × IsScript mode bytes script) ⊎ ((line : ℕ) × IsBadLine mode bytes line)
+    go (Ok script) e = inl (script, IsScript-from mode bytes script e)
+    go (Err line) e = inr (line, IsBadLine-from mode bytes line e)
 
 -- what is neither skipped nor a line was not read
 bad_is_not_read : (mode : ScriptMode) (number : ℕ) (names : List (List ℕ)) (piece : List ℕ) (read : Behind)

@@ -1,5 +1,5 @@
 -- Laws of script lines (docs/GRAMMAR.md, "Script lines").
-use Rattle.std.specs.Prelude.{◌≡◌, ℕ, ◌<◌, ◌≤◌, List, [], ◌∷◌, length}
+use Rattle.std.specs.Prelude.{◌≡◌, ℕ, ◌<◌, ◌≤◌, ◌⊎◌, List, [], ◌∷◌, length}
 use Rattle.std.specs.List.{AllByRecursion}
 use Rattle.pj_parse.specs.declared.types.ScriptMode.{ScriptMode}
 use Rattle.pj_parse.specs.declared.types.ScriptLine.{ScriptLine}
@@ -11,6 +11,12 @@ abbrev pub OneReading : Type 0
 OneReading =
     (mode : ScriptMode) (bytes : List ℕ) (a b : Script) → IsScript mode bytes a → IsScript mode bytes b
     → a ≡ b
+
+-- bytes spell a script, or have a bad line
+abbrev pub ScriptOrBadLine : Type 0
+ScriptOrBadLine =
+    (mode : ScriptMode) (bytes : List ℕ)
+    → ((script : Script) × IsScript mode bytes script) ⊎ ((line : ℕ) × IsBadLine mode bytes line)
 
 -- bytes with a bad line spell no script
 abbrev pub NoScriptWithABadLine : Type 0

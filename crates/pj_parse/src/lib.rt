@@ -26,6 +26,7 @@ pub use inserts::read_insert;
 pub use laws::{line_or_place, one_place, one_statement};
 pub use lines::{
     ScriptFault, lines_rise, no_script_with_a_bad_line, one_bad_line, one_reading, script,
+    script_or_bad_line,
 };
 pub use parsing::{ParseFault, statement};
 

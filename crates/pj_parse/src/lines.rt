@@ -5,7 +5,8 @@ ghost use Rattle.std.specs.List.{prefix_len, suffix_len};
 ghost use Rattle.pj_parse.specs.declared.lines.ScriptFault.TheVariants as faults;
 ghost use Rattle.pj_lex.specs.Bytes.{is_blank, is_small};
 ghost use Rattle.pj_parse.specs.Lines.{pieces, is_name_byte, names_limit, IsScript, HasLineCause};
-ghost use Rattle.pj_parse.specs.LineLaws.{OneReading, NoScriptWithABadLine, OneBadLine, LinesRise};
+ghost use Rattle.pj_parse.specs.LineLaws.{OneReading, ScriptOrBadLine, NoScriptWithABadLine};
+ghost use Rattle.pj_parse.specs.LineLaws.{OneBadLine, LinesRise};
 ghost use Rattle.pj_parse.specs.ReadingLines.{Gives, behind_blanks, before_blanks, is_skipped};
 ghost use Rattle.pj_parse.specs.ReadingLines.{is_name, name_and_rest, begins_start, is_body};
 ghost use Rattle.pj_parse.specs.ReadingLines.{body_of, numbered, line_at, script_of};
@@ -269,9 +270,9 @@ pub fn script(alloc: Global, bytes: &[u8], mode: ScriptMode) -> Result<Script, S
     requires { length bytes.now ≤ 4294967295 }
     ensures found { IfOk result (λ script. IsScript mode bytes.now script) }
 
-    // No bytes both spell a script and have a bad line (`no_script_with_a_bad_line`), and none have two first
-    // bad lines
-    // (`one_bad_line`), so these leave one answer beside want of memory.
+    // Bytes spell a script or have a bad line (`script_or_bad_line`), none do both
+    // (`no_script_with_a_bad_line`), and none have two first bad lines (`one_bad_line`), so these leave one
+    // answer beside want of memory.
     ensures bad { IfErr result (λ fault. HasLineCause mode bytes.now fault) }
 {
     read_lines(alloc, bytes, mode)
@@ -285,6 +286,11 @@ pub fn one_reading()
 /// Bytes have one first bad line at most.
 pub fn one_bad_line()
     ensures { OneBadLine }
+{}
+
+/// Bytes spell a script, or have a bad line.
+pub fn script_or_bad_line()
+    ensures { ScriptOrBadLine }
 {}
 
 /// Bytes with a bad line spell no script.
