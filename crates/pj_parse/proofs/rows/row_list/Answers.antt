@@ -1,4 +1,4 @@
-use Rattle.std.proofs.Common.{◌≡◌, ◌+◌, ◌-◌, ◌++◌, ◌∷◌, [], ap, arith, rules, sym, ◌∙◌}
+use Rattle.std.proofs.Common.{◌+◌, ◌-◌, ap, arith, rules}
 use Rattle.pj_parse.specs.RowLayout.{WithBegun}
 use Rattle.pj_parse.specs.ParsingStatements.{row_at}
 use Rattle.pj_parse.proofs.ManyLoop.{list-step}
