@@ -1,11 +1,13 @@
 -- What is written line by line, and what that makes of a whole run.
 use Rattle.std.proofs.Common.{◌≡◌, ℕ, ◌+◌, ◌<◌, ◌≤◌, suc, Bool, true, false, ◌&&◌, cond, nat_le}
-use Rattle.std.proofs.Common.{List, [], ◌∷◌, ◌++◌, length, get_or, take, map, min}
+use Rattle.std.proofs.Common.{List, [], ◌∷◌, ◌++◌, length, get_or, take, map}
 use Rattle.std.proofs.Common.{Option, Some, refl, sym, ap, subst, ◌∙◌, inl, inr, arith}
+use Rattle.std.specs.Prelude.{codes}
+use Rattle.std.specs.Fmt.{decimal}
 use Rattle.std.specs.Io.KnownBytes.{Appends}
 use Rattle.std.proofs.KnownBytes.{Appends-nil, Appends-trans}
 use Rattle.std.proofs.lemmas.Bool.{le-leb}
-use Rattle.std.proofs.lemmas.List.{take_all, take-map, map_more, take-append-le, take_min, length-map}
+use Rattle.std.proofs.lemmas.List.{take_all, take-map, map_more, take-append-le, length-map, length-append}
 use Rattle.pj_io.specs.Transfers.{AppendsPart}
 use Rattle.pj_parse.specs.declared.types.ScriptMode.TheVariants.{Play}
 use Rattle.pj_parse.specs.declared.types.Script.{Script}
@@ -19,23 +21,39 @@ use Rattle.pj_legal.specs.declared.reply.Reply.{Reply}
 use Rattle.pj_legal.specs.Legal.{Said, body_of, statement_of, statements, Form}
 use Rattle.pj_legal.specs.Run.{LinesRise, RunsAreLegal, cut}
 use Rattle.pj_legal.specs.Laws.{CutRunsAreLegal, RunGoesOn, RunIsAsLong, TextsGoOn}
-use Rattle.pj_legal.specs.Texts.{name_at, reply_text, texts_of, history_text}
+use Rattle.pj_legal.specs.Texts.{as_line, name_at, reply_text, texts_of, entries_text, history_text}
 use Rattle.pj_server.specs.declared.end.End.{End}
 use Rattle.pj_server.specs.declared.end.End.TheVariants.{Usage, SourceFailed, TooLarge, BadLine}
 use Rattle.pj_server.specs.declared.end.End.TheVariants.{SinkFailed, NoMemory, Finished}
 use Rattle.pj_server.specs.Moves.{Serves}
 use Rattle.pj_server.specs.RunLines.{Writes, RunsLine, RunsLines}
 use Rattle.pj_server.specs.Ends.{TellsLine, WholeScript, PartScript, ScriptEnds, FinishesSo}
-use Rattle.pj_server.specs.Played.{history_entries, IsRead, RunsSo, EndsSo}
+use Rattle.pj_server.specs.Played.{history_entries, IsRead, bad_line_text, RunsSo, EndsSo}
 
 -- the statement of a line with this body
 abbrev said : ScriptLine → List ℕ → Said
 said line body = record { line = line.line; session = line.name; body = body }
 
--- ---- fronts of a text
+-- ---- proper prefixes of a text
 
-pub AppendsPart-none : (a : Option (List ℕ)) (text : List ℕ) → AppendsPart a a text
-AppendsPart-none a text = (0, Appends-nil a)
+pub AppendsPart-none : (a : Option (List ℕ)) (text : List ℕ) → 0 < length text → AppendsPart a a text
+AppendsPart-none a text some = (0, some, Appends-nil a)
+
+-- what begins with a line is not empty
+line-some : (text more : List ℕ) → 0 < length (as_line text ++ more)
+line-some text more =
+    omega (arith, length-append (text ++ 10 ∷ []) more, length-append text (10 ∷ []))
+
+pub reply_text-some : (line : ℕ) (name : List ℕ) (reply : Reply) → 0 < length (reply_text line name reply)
+unfolding reply_text
+reply_text-some line name reply = line-some _ _
+
+pub history_text-some : (names : List (List ℕ)) (h : List Entry) → 0 < length (history_text names h)
+history_text-some names h =
+    line-some (codes "history " ++ decimal (length h)) (entries_text names [] h)
+
+pub bad_line_text-some : (line : ℕ) → 0 < length (bad_line_text line)
+bad_line_text-some line = omega (arith, length-append (codes "bad script line " ++ decimal line) (10 ∷ []))
 
 take-past : (xs ys : List ℕ) (n : ℕ) → take (length xs + n) (xs ++ ys) ≡ xs ++ take n ys
 take-past [] ys n = ap (λ k. take k ys) (omega arith)
@@ -47,17 +65,19 @@ pub AppendsPart-after : (a b c : Option (List ℕ)) (xs ys : List ℕ) → Appen
     → AppendsPart a c (xs ++ ys)
 AppendsPart-after a b c xs ys p q = (
   length xs + q.0,
-  subst (Appends a c) (sym (take-past xs ys q.0)) (Appends-trans a b c xs (take q.0 ys) p q.1),
+  omega (arith, q.1, length-append xs ys),
+  subst (Appends a c) (sym (take-past xs ys q.0)) (Appends-trans a b c xs (take q.0 ys) p q.2),
 )
 
--- a front of a text is a front of a longer one
+-- a proper prefix of a text is one of a longer text
 pub AppendsPart-longer : (a b : Option (List ℕ)) (xs ys : List ℕ) → AppendsPart a b xs
     → AppendsPart a b (xs ++ ys)
 AppendsPart-longer a b xs ys p =
-    let n = min p.0 (length xs) in
-    let le : n ≤ length xs = omega arith in
-    let same : take n (xs ++ ys) ≡ take p.0 xs = take-append-le n xs ys le ∙ take_min p.0 xs in
-    (n, subst (Appends a b) (sym same) p.1)
+    let le : p.0 ≤ length xs = omega (arith, p.1) in (
+      p.0,
+      omega (arith, p.1, length-append xs ys),
+      subst (Appends a b) (sym (take-append-le p.0 xs ys le)) p.2,
+    )
 
 Writes-after : (end : End) (a b c : Option (List ℕ)) (xs ys : List ℕ) → Appends a b xs → Writes end b c ys
     → Writes end a c (xs ++ ys)

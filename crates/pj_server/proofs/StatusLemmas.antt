@@ -1,12 +1,12 @@
 -- What a status says of how the call ended.
-use Rattle.std.proofs.Common.{◌≡◌, ℕ, ◌+◌, ◌≤◌, ◌⊎◌, Bool, List, [], ◌∷◌, ◌++◌, length, Option, Some}
+use Rattle.std.proofs.Common.{◌≡◌, ℕ, ◌+◌, ◌<◌, ◌≤◌, ◌⊎◌, Bool, List, [], ◌∷◌, ◌++◌, length, Option, Some}
 use Rattle.std.proofs.Common.{None, refl, ap, subst, ◌∙◌, inl, inr, append-nil, lit<, arith}
 use Rattle.std.specs.Prelude.{Contains}
 use Rattle.std.specs.Io.KnownBytes.{Consumes, IsAtEnd}
 use Rattle.std.proofs.lemmas.List.{length-append}
 use Rattle.pj_parse.specs.declared.types.ScriptMode.TheVariants.{Play}
 use Rattle.pj_parse.specs.declared.types.Script.{Script}
-use Rattle.pj_parse.specs.Lines.{IsScript}
+use Rattle.pj_parse.specs.Lines.{IsScript, IsBadLine}
 use Rattle.pj_parse.specs.LineLaws.{NoScriptWithABadLine}
 use Rattle.pj_journal.specs.declared.entry.Entry.{Entry}
 use Rattle.pj_server.specs.declared.end.End.{End}
@@ -36,6 +36,29 @@ too_long : (bytes found : List ℕ) (rest : Option (List ℕ)) → Consumes (Som
 too_long bytes found None c long few = absurd c
 too_long bytes found (Some more) c long few = absurd (omega (arith, ap length c, length-append found more))
 
+-- a sink whose count of faults rose has failed
+pub sink_blamed : (end : End) (before after : ℕ) → ((end ≡ SinkFailed → ⊥) → after ≡ before) → before < after
+    → status_of end ≡ 5
+sink_blamed SinkFailed before after calm rose = refl
+sink_blamed Finished before after calm rose = absurd (omega (arith, rose, calm (λ e. cc)))
+sink_blamed Usage before after calm rose = absurd (omega (arith, rose, calm (λ e. cc)))
+sink_blamed BadLine before after calm rose = absurd (omega (arith, rose, calm (λ e. cc)))
+sink_blamed SourceFailed before after calm rose = absurd (omega (arith, rose, calm (λ e. cc)))
+sink_blamed NoMemory before after calm rose = absurd (omega (arith, rose, calm (λ e. cc)))
+sink_blamed TooLarge before after calm rose = absurd (omega (arith, rose, calm (λ e. cc)))
+
+-- a source whose count of faults rose has failed
+pub source_blamed : (end : End) (before after : ℕ) → ((end ≡ SourceFailed → ⊥) → after ≡ before)
+    → before < after
+    → status_of end ≡ 4
+source_blamed SourceFailed before after calm rose = refl
+source_blamed Finished before after calm rose = absurd (omega (arith, rose, calm (λ e. cc)))
+source_blamed Usage before after calm rose = absurd (omega (arith, rose, calm (λ e. cc)))
+source_blamed BadLine before after calm rose = absurd (omega (arith, rose, calm (λ e. cc)))
+source_blamed SinkFailed before after calm rose = absurd (omega (arith, rose, calm (λ e. cc)))
+source_blamed NoMemory before after calm rose = absurd (omega (arith, rose, calm (λ e. cc)))
+source_blamed TooLarge before after calm rose = absurd (omega (arith, rose, calm (λ e. cc)))
+
 -- a script of the grammar is run to its end, or there is no memory
 pub completes : NoScriptWithABadLine
     → (end : End) (wish : Option Bool) (left rest : Option (List ℕ)) (h : List Entry) (a b : Option (List ℕ))
@@ -59,3 +82,27 @@ completes law SinkFailed wish left rest h a b ends source sink bytes script told
     absurd (sink refl)
 completes law NoMemory wish left rest h a b ends source sink bytes script told few spelled taken = inr refl
 completes law Finished wish left rest h a b ends source sink bytes script told few spelled taken = inl refl
+
+-- a bad line is told, or there is no memory
+pub tells_bad_line : NoScriptWithABadLine
+    → (end : End) (wish : Option Bool) (left rest : Option (List ℕ)) (h : List Entry) (a b : Option (List ℕ))
+    → EndsSo end wish left rest h a b
+    → (end ≡ SourceFailed → ⊥) → (end ≡ SinkFailed → ⊥) → (bytes : List ℕ) (line : ℕ)
+    → left ≡ Some bytes → length bytes ≤ script_bytes → IsBadLine Play bytes line → (wish ≡ None → ⊥)
+    → (status_of end ≡ 3) ⊎ (status_of end ≡ 6)
+tells_bad_line law Usage wish left rest h a b ends source sink bytes line told few bad taken =
+    absurd (taken ends.0)
+tells_bad_line law SourceFailed wish left rest h a b ends source sink bytes line told few bad taken =
+    absurd (source refl)
+tells_bad_line law TooLarge wish left rest h a b ends source sink bytes line told few bad taken =
+    absurd (too_long bytes ends.1.0 rest (subst (λ l. Consumes l rest ends.1.0) told ends.1.2) ends.1.1 few)
+tells_bad_line law BadLine wish left rest h a b ends source sink bytes line told few bad taken = inl refl
+tells_bad_line law SinkFailed wish left rest h a b ends source sink bytes line told few bad taken =
+    absurd (sink refl)
+tells_bad_line law NoMemory wish left rest h a b ends source sink bytes line told few bad taken = inr refl
+tells_bad_line law Finished wish left rest h a b ends source sink bytes line told few bad taken =
+    let same =
+    all_read bytes ends.bytes rest
+    (subst (λ l. Consumes l rest ends.bytes) told ends.read.consumed) ends.read.at_end in
+    absurd (law Play ends.bytes ends.run.script line ends.run.spelled
+    (subst (λ bs. IsBadLine Play bs line) same bad))

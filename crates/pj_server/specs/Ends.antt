@@ -12,7 +12,7 @@ use Rattle.pj_server.specs.declared.end.End.TheVariants as ends
 use Rattle.pj_server.specs.Played.{bad_line_text, output, output_of_part}
 use Rattle.pj_server.specs.RunLines.{Writes}
 
--- a bad line was told, or a front of its text was
+-- a bad line was told, or a proper prefix of its text was
 abbrev pub TellsLine : End → ℕ → Option (List ℕ) → Option (List ℕ) → Type 0
 TellsLine ends.BadLine line before after = Appends before after (bad_line_text line)
 TellsLine ends.SinkFailed line before after = AppendsPart before after (bad_line_text line)

@@ -45,7 +45,7 @@ pub record TellsBadLine (bytes : List ℕ) (h : List Entry) (before after : Opti
   pub none : h ≡ []
   pub written : Appends before after (bad_line_text line)
 
--- a line of the bytes is bad, nothing was run, and a front of its text was written
+-- a line of the bytes is bad, nothing was run, and a proper prefix of its text was written
 pub record TellsPart (bytes : List ℕ) (h : List Entry) (before after : Option (List ℕ)) : Type 0 where
   pub line : ℕ
   pub bad : IsBadLine Play bytes line
@@ -71,8 +71,8 @@ pub record PlaysScript (limit : ℕ) (wanted : Bool) (bytes : List ℕ) (h : Lis
   pub legal : IsLegal limit script h replies
   pub written : Appends before after (output wanted script h replies)
 
--- the bytes spell a script, the history is legal for it cut after some lines, and a front of the text of that
--- was written
+-- the bytes spell a script, the history is legal for it cut after some lines, and a proper prefix of the text
+-- of that was written
 pub record PlaysPart (limit : ℕ) (wanted : Bool) (bytes : List ℕ) (h : List Entry)
     (before after : Option (List ℕ)) : Type 0 where
   pub script : Script

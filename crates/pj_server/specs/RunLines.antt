@@ -12,7 +12,7 @@ use Rattle.pj_server.specs.declared.end.End.{End}
 use Rattle.pj_server.specs.declared.end.End.TheVariants as ends
 use Rattle.pj_server.specs.Moves.{Serves}
 
--- all of a text was written, or a front of it, by how the write ended
+-- all of a text was written, or a proper prefix of it, by how the write ended
 abbrev pub Writes : End → Option (List ℕ) → Option (List ℕ) → List ℕ → Type 0
 Writes ends.Finished before after text = Appends before after text
 Writes ends.SinkFailed before after text = AppendsPart before after text

@@ -18,6 +18,7 @@ pub(crate) fn write_text<W: Sink>(sink: &mut W, text: &[u8]) -> End
     ensures written { Writes result (W.taken sink.old) (W.taken sink.new) text.now }
     ensures later { W.faults sink.old ≤ W.faults sink.new }
     ensures failed { result ≡ End.SinkFailed → Rose (W.faults sink.old) (W.faults sink.new) }
+    ensures calm { (result ≡ End.SinkFailed → ⊥) → W.faults sink.new ≡ W.faults sink.old }
 {
     match write_all(sink, text) {
         Ok(()) => End::Finished,
@@ -48,6 +49,7 @@ fn run_line<W: Sink>(
         (W.taken sink.new) }
     ensures later { W.faults sink.old ≤ W.faults sink.new }
     ensures failed { result ≡ End.SinkFailed → Rose (W.faults sink.old) (W.faults sink.new) }
+    ensures calm { (result ≡ End.SinkFailed → ⊥) → W.faults sink.new ≡ W.faults sink.old }
 {
     let by = By {
         session: line.name,
@@ -75,6 +77,7 @@ pub(crate) fn run_lines<W: Sink>(
         × (result ≡ End.Finished → count ≡ length lines.now) }
     ensures later { W.faults sink.old ≤ W.faults sink.new }
     ensures failed { result ≡ End.SinkFailed → Rose (W.faults sink.old) (W.faults sink.new) }
+    ensures calm { (result ≡ End.SinkFailed → ⊥) → W.faults sink.new ≡ W.faults sink.old }
 {
     run_goes_on();
     run_is_as_long();

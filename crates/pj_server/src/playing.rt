@@ -8,7 +8,7 @@ ghost use Rattle.pj_io.specs.Faults.{Rose};
 ghost use Rattle.pj_io.specs.Transfers.{TookTooMuch, TookAtMost};
 ghost use Rattle.pj_parse.specs.declared.types.ScriptMode.TheVariants.{Play};
 ghost use Rattle.pj_parse.specs.declared.types.Script.{Script};
-ghost use Rattle.pj_parse.specs.Lines.{IsScript};
+ghost use Rattle.pj_parse.specs.Lines.{IsScript, IsBadLine};
 ghost use Rattle.pj_legal.specs.Legal.{statements};
 ghost use Rattle.pj_legal.specs.Run.{LinesRise};
 ghost use Rattle.pj_legal.specs.Texts.{history_text as text_of_history};
@@ -90,8 +90,8 @@ pub fn play<R: Source, W: Sink>(
         → Reads ends.Finished (wish_of (map string_bytes words.now)) (R.left source.old) (R.left source.new)
         result.history.entries (W.taken sink.old) (W.taken sink.new) }
 
-    // The history is legal for the script cut after some lines, and a front of the text of that was written;
-    // or a front of the text of a bad line was.
+    // The history is legal for the script cut after some lines, and a proper prefix of the text of that was
+    // written; or a proper prefix of the text of a bad line was.
     ensures sink_failed { result.status ≡ 5 → Rose (W.faults sink.old) (W.faults sink.new) }
     ensures stopped { result.status ≡ 5
         → Reads ends.SinkFailed (wish_of (map string_bytes words.now)) (R.left source.old)
@@ -101,6 +101,10 @@ pub fn play<R: Source, W: Sink>(
         → EndsSo ends.NoMemory (wish_of (map string_bytes words.now)) (R.left source.old)
         (R.left source.new)
         result.history.entries (W.taken sink.old) (W.taken sink.new) }
+
+    // Want of memory doesn't stand in for a source or a sink that failed.
+    ensures source_blamed { R.faults source.old < R.faults source.new → result.status ≡ 4 }
+    ensures sink_blamed { W.faults sink.old < W.faults sink.new → result.status ≡ 5 }
 
     // Nothing was run, and but for a bad line nothing was written.
     ensures empty { (result.status ≡ 2) ⊎ (result.status ≡ 3) ⊎ (result.status ≡ 4) ⊎ (result.status ≡ 7)
@@ -116,6 +120,15 @@ pub fn play<R: Source, W: Sink>(
         → (Rose (R.faults source.old) (R.faults source.new) → ⊥)
         → (Rose (W.faults sink.old) (W.faults sink.new) → ⊥)
         → (result.status ≡ 0) ⊎ (result.status ≡ 6) }
+
+    // And where the bytes have a bad line, that is told, with the same exceptions.
+    ensures bad_line_told { (bytes : List ℕ) (line : ℕ) → R.left source.old ≡ Some bytes
+        → length bytes ≤ script_bytes
+        → IsBadLine Play bytes line
+        → (wish_of (map string_bytes words.now) ≡ None → ⊥)
+        → (Rose (R.faults source.old) (R.faults source.new) → ⊥)
+        → (Rose (W.faults sink.old) (W.faults sink.new) → ⊥)
+        → (result.status ≡ 3) ⊎ (result.status ≡ 6) }
 
     ensures statuses { Contains (0 ∷ 2 ∷ 3 ∷ 4 ∷ 5 ∷ 6 ∷ 7 ∷ []) result.status }
     ensures limit { result.history.limit ≡ history_entries }
@@ -140,7 +153,10 @@ fn play_words<R: Source, W: Sink>(
         (R.left source.new)
         result.history.entries (W.taken sink.old) (W.taken sink.new) }
     ensures source_failed { result.end ≡ End.SourceFailed → Rose (R.faults source.old) (R.faults source.new) }
+    ensures source_calm { (result.end ≡ End.SourceFailed → ⊥)
+        → R.faults source.new ≡ R.faults source.old }
     ensures sink_failed { result.end ≡ End.SinkFailed → Rose (W.faults sink.old) (W.faults sink.new) }
+    ensures sink_calm { (result.end ≡ End.SinkFailed → ⊥) → W.faults sink.new ≡ W.faults sink.old }
     ensures source_later { R.faults source.old ≤ R.faults source.new }
     ensures sink_later { W.faults sink.old ≤ W.faults sink.new }
     ensures limit { result.history.limit ≡ HISTORY }
@@ -181,6 +197,7 @@ pub(crate) fn play_bytes<W: Sink>(
     ensures runs { RunsSo result.end limit wanted bytes.items result.history.entries (W.taken sink.old)
         (W.taken sink.new) }
     ensures sink_failed { result.end ≡ End.SinkFailed → Rose (W.faults sink.old) (W.faults sink.new) }
+    ensures sink_calm { (result.end ≡ End.SinkFailed → ⊥) → W.faults sink.new ≡ W.faults sink.old }
     ensures sink_later { W.faults sink.old ≤ W.faults sink.new }
     ensures limit { result.history.limit ≡ limit }
 {
@@ -205,6 +222,7 @@ pub(crate) fn play_bytes<W: Sink>(
 fn write_bad_line<W: Sink>(alloc: Global, line: u32, sink: &mut W) -> End
     ensures end { TellsLine result line (W.taken sink.old) (W.taken sink.new) }
     ensures failed { result ≡ End.SinkFailed → Rose (W.faults sink.old) (W.faults sink.new) }
+    ensures calm { (result ≡ End.SinkFailed → ⊥) → W.faults sink.new ≡ W.faults sink.old }
     ensures later { W.faults sink.old ≤ W.faults sink.new }
 {
     match bad_line(alloc, line) {
@@ -241,6 +259,7 @@ fn play_script<W: Sink>(
     ensures ends { ScriptEnds result.end limit wanted script.now result.history.entries (W.taken sink.old)
         (W.taken sink.new) }
     ensures sink_failed { result.end ≡ End.SinkFailed → Rose (W.faults sink.old) (W.faults sink.new) }
+    ensures sink_calm { (result.end ≡ End.SinkFailed → ⊥) → W.faults sink.new ≡ W.faults sink.old }
     ensures sink_later { W.faults sink.old ≤ W.faults sink.new }
     ensures limit { result.history.limit ≡ limit }
 {
@@ -274,6 +293,8 @@ fn finish<W: Sink>(
         (text_of_history script.now.names journal.now.entries) }
     ensures failed { result ≡ End.SinkFailed
         → (lines ≡ End.SinkFailed) ⊎ Rose (W.faults sink.old) (W.faults sink.new) }
+    ensures kept { lines ≡ End.SinkFailed → result ≡ End.SinkFailed }
+    ensures calm { (result ≡ End.SinkFailed → ⊥) → W.faults sink.new ≡ W.faults sink.old }
     ensures later { W.faults sink.old ≤ W.faults sink.new }
 {
     match lines {

@@ -2,7 +2,7 @@ use Rattle.std.proofs.Common.{◌∙◌, refl, sym, []}
 use Rattle.std.proofs.lemmas.List.{get_or_read}
 use Rattle.pj_server.specs.declared.end.End.TheVariants.{NoMemory}
 use Rattle.pj_legal.specs.Texts.{reply_text}
-use Rattle.pj_server.proofs.PlayLemmas.{runs_line, AppendsPart-none}
+use Rattle.pj_server.proofs.PlayLemmas.{runs_line, AppendsPart-none, reply_text-some}
 use Rattle.pj_server.proofs.lines.run_line.Goals as goal
 
 pub returns-in-Ok-clause-run : goal.returns-in-Ok-clause-run
@@ -18,4 +18,5 @@ returns-clause-run g c =
     runs_line NoMemory _ _ c.args.names.now c.args.line.now c.body_of.result.now c.index-names-line.result
     (reply_text c.args.line.now.line c.index-names-line.result c.statement-reply.result)
     c.statement-reply.result _ _ c.body_of.ensures
-    c.statement-reply.ensures refl name (AppendsPart-none _ _)
+    c.statement-reply.ensures refl name
+    (AppendsPart-none _ _ (reply_text-some _ _ _))

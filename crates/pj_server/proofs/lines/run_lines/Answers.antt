@@ -1,4 +1,4 @@
-use Rattle.std.proofs.Common.{◌+◌, arith}
+use Rattle.std.proofs.Common.{◌+◌, ◌∙◌, arith}
 use Rattle.pj_server.specs.declared.end.End.TheVariants.{Finished}
 use Rattle.pj_server.proofs.PlayLemmas.{RunsLines-more}
 use Rattle.pj_server.proofs.lines.run_lines.Goals as goal
@@ -16,6 +16,7 @@ returns-in_default g c =
       run = (c.lines.line-index + 1, more, λ e. absurd (c.in_default.not-Finished e));
       later = omega (arith, c.lines.invariant.1, c.run_line.ensures.later);
       failed = λ e. let rose = c.run_line.ensures.failed e in omega (arith, c.lines.invariant.1, rose);
+      calm = λ other. c.run_line.ensures.calm other ∙ c.lines.invariant.1;
     }
 
 pub lines-preserved : goal.lines-preserved
@@ -26,5 +27,5 @@ lines-preserved g c = (
       (g.W.Sink.taken c.args.sink.now) (g.W.Sink.taken c.lines.sink)
       (g.W.Sink.taken c.run_line.new.sink) c.lines-test.true c.line-item.is c.lines.invariant.0
       c.in-Finished.ensures.run,
-  omega (arith, c.lines.invariant.1, c.in-Finished.ensures.later),
+  c.in-Finished.ensures.calm (λ e. cc) ∙ c.lines.invariant.1,
 )

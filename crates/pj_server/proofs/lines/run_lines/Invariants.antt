@@ -1,4 +1,4 @@
-use Rattle.std.proofs.Common.{◌≤◌}
+use Rattle.std.proofs.Common.{◌≡◌}
 use Rattle.pj_server.specs.declared.end.End.TheVariants.{Finished}
 use Rattle.pj_server.specs.RunLines.{RunsLines}
 use Rattle.pj_server.proofs.lines.run_lines.Given as goal
@@ -7,4 +7,4 @@ abbrev pub invariant-lines : goal.invariant-lines
 invariant-lines g l =
     RunsLines Finished l.line-index l.initial.server l.server l.names l.lines (g.W.Sink.taken l.initial.sink)
     (g.W.Sink.taken l.sink)
-    × (g.W.Sink.faults l.initial.sink ≤ g.W.Sink.faults l.sink)
+    × (g.W.Sink.faults l.sink ≡ g.W.Sink.faults l.initial.sink)
