@@ -7,7 +7,7 @@ use Rattle.pj_value.specs.declared.value.Kind.{Kind}
 use Rattle.pj_value.specs.declared.value.Value.{Value}
 use Rattle.pj_value.specs.Rows.{KindedRows, HaveKinds}
 use Rattle.pj_expr.specs.declared.table.Table.{Table}
-use Rattle.pj_expr.specs.Tables.{names, kinds_of}
+use Rattle.pj_expr.specs.Tables.{names, kinds_of, TableFits}
 use Rattle.pj_journal.specs.declared.entry.What.{What}
 use Rattle.pj_journal.specs.declared.entry.What.TheVariants.{Created, Refused, Looked, Begun, Inserted}
 use Rattle.pj_journal.specs.declared.entry.Entry.{Entry}
@@ -67,10 +67,10 @@ next_on t n (Inserted table block rows) = if table == t then n + 1 else n
 abbrev pub next : List Entry → ℕ → ℕ
 next h t = fold (λ n entry. next_on t n entry.what) 1 h
 
--- the move fits the history before it: names are new, tables are there, numbers are the next ones, rows have
--- the kinds of their table
+-- the move fits the history before it: names are new and tables may be made, tables are there, numbers are the
+-- next ones, rows have the kinds of their table
 abbrev pub WhatFits : List Entry → What → Type 0
-WhatFits place (Created table) = Contains (names (catalog place)) table.name → ⊥
+WhatFits place (Created table) = (Contains (names (catalog place)) table.name → ⊥) × TableFits table
 WhatFits place Refused = Unit {0}
 WhatFits place (Looked table) = table < length (catalog place)
 WhatFits place (Begun table) = table < length (catalog place)

@@ -7,6 +7,8 @@ use pj_value::Rows;
 pub enum Actor {
     /// A session, by the number of its name in the script.
     Session(u32),
+    /// A worker, by its number from 1. Its line is the number of its task.
+    Worker(u32),
 }
 
 /// What an entry did. Tables are numbered from 0 in the order in which they were created.
@@ -28,7 +30,7 @@ pub enum What {
 #[derive(Debug, Drop)]
 pub struct Entry {
     pub actor: Actor,
-    /// The line of the statement that the move belongs to.
+    /// The line of the statement, also where another line ends it; of a worker the number of its task.
     pub line: u32,
     pub what: What,
 }
