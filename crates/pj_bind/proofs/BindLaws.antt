@@ -1,11 +1,8 @@
--- A statement binds or is refused, and in one way.
-use Rattle.std.proofs.Common.{◌≡◌, ℕ, ◌<◌, List, length, take, Some, slice_get, Contains}
-use Rattle.std.proofs.Common.{Option, refl, sym, ap, ◌∙◌, subst, ⊎_elim, inl, inr, arith}
-use Rattle.std.specs.Prelude.{◌⊎◌}
+-- A statement binds or is refused, one or the other, and in one way.
+use Rattle.std.proofs.Common.{◌≡◌, ℕ, ◌<◌, ◌≤◌, List, length, Option, None, Contains, refl, sym, ap, ◌∙◌}
+use Rattle.std.proofs.Common.{subst, ⊎_elim, inl, inr, arith}
 use Rattle.std.proofs.lemmas.Bool.{cases_lt}
-use Rattle.std.proofs.lemmas.List.{take-take, length-take, get_or-take}
-use Rattle.std.proofs.lemmas.Option.{none-some, same_Some, slice_get_within, slice_get-get_or}
-use Rattle.std.proofs.lemmas.Option.{get_or_from_slice_get}
+use Rattle.std.proofs.lemmas.Option.{same_Some}
 use Rattle.pj_value.specs.declared.value.Value.{Value}
 use Rattle.pj_parse.specs.declared.types.Statement.{Statement}
 use Rattle.pj_parse.specs.declared.types.Statement.TheVariants as statements
@@ -13,189 +10,113 @@ use Rattle.pj_parse.specs.declared.types.TreeColumn.{TreeColumn}
 use Rattle.pj_parse.specs.declared.types.TreeSelect.{TreeSelect}
 use Rattle.pj_expr.specs.declared.query.Query.{Query}
 use Rattle.pj_expr.specs.declared.table.Table.{Table}
-use Rattle.pj_expr.specs.Tables.{kinds_of}
+use Rattle.pj_expr.specs.Tables.{names, kinds_of}
 use Rattle.pj_expr.specs.Fits.{FitsQuery, KeepsGroups}
 use Rattle.pj_bind.specs.declared.types.Bound.{Bound}
 use Rattle.pj_bind.specs.declared.types.Bound.TheVariants as bounds
-use Rattle.pj_bind.specs.declared.types.LimitName.TheVariants.{Tokens, Text, Tables, Columns, History}
-use Rattle.pj_bind.specs.declared.types.Refusal.{Refusal}
-use Rattle.pj_bind.specs.declared.types.Refusal.TheVariants.{Syntax, Limit, NotBuilt, UnknownTable}
-use Rattle.pj_bind.specs.declared.types.Refusal.TheVariants.{TableExists, DuplicateColumn}
-use Rattle.pj_bind.specs.declared.types.Refusal.TheVariants.{UnknownIdentifier, TypeMismatch}
-use Rattle.pj_bind.specs.declared.types.Refusal.TheVariants.{NotAnAggregate, NoMemory}
-use Rattle.pj_bind.specs.Names.{Name, NoneRepeats, IsFirstRepeat}
-use Rattle.pj_bind.specs.Filling.{listed_names, FillColumns, filled_rows}
-use Rattle.pj_bind.specs.Binding.{IsTableAt, IsUnknown, new_names, RepeatsFirst, AreOnce}
-use Rattle.pj_bind.specs.Binding.{IsCreateRefusal, CanBeCreated, AreColumns, IsInsertRefusal, IsSelectRefusal}
-use Rattle.pj_bind.specs.Binding.{KindsAre, Asks, TellsUnknown, RefusedAt, IsRefusedBy, IsBound}
-use Rattle.pj_bind.specs.Laws.{HasUniqueNames, OneRefusal, BoundOrRefused, OneBound, BoundQueriesFit}
-use Rattle.pj_bind.proofs.TableLemmas.{Contains-at}
+use Rattle.pj_bind.specs.declared.types.LimitName.TheVariants.{Tables, Columns}
+use Rattle.pj_bind.specs.declared.types.Refusal.TheVariants.{Limit, NotBuilt, UnknownTable, TableExists}
+use Rattle.pj_bind.specs.declared.types.Refusal.TheVariants.{DuplicateColumn, UnknownIdentifier}
+use Rattle.pj_bind.specs.declared.types.Refusal.TheVariants.{TypeMismatch, NotAnAggregate}
+use Rattle.pj_bind.specs.Names.{Name, first_unknown, IsFirstUnknown, NoneRepeats, IsFirstRepeat}
+use Rattle.pj_bind.specs.Filling.{column_names, listed_names, FillColumns, filled_rows}
+use Rattle.pj_bind.specs.Queries.{column_names_of}
+use Rattle.pj_bind.specs.Tables.{table_of}
+use Rattle.pj_bind.specs.Built.{IsBuilt}
+use Rattle.pj_bind.specs.Causes.{◌when◌, ◌naming◌, GivesNone}
+use Rattle.pj_bind.specs.Binding.{table_limit, column_limit, IsUnknown, IsTableAt, new_names, CanBeCreated}
+use Rattle.pj_bind.specs.Binding.{create_causes, AreColumns, insert_causes, KindsAre, BreaksGroups}
+use Rattle.pj_bind.specs.Binding.{select_causes, Asks, asked_of, form_causes, causes, IsBound}
+use Rattle.pj_bind.specs.Laws.{OneRefusal, OneBound, NoBoundIsRefused, BoundOrRefused, BoundQueriesFit}
+use Rattle.pj_bind.proofs.Decided.{holds}
+use Rattle.pj_bind.proofs.RepeatLemmas.{NoneRepeats-from_none}
+use Rattle.pj_bind.proofs.RepeatLemmas.{known-from_none}
+use Rattle.pj_bind.proofs.TableLemmas.{unknown-or-at, place-same, table-same}
+use Rattle.pj_bind.proofs.FaultLemmas.{repeat-none, unknown-none}
+use Rattle.pj_bind.proofs.FillingDecided.{decided-FillColumns}
+use Rattle.pj_bind.proofs.QueriesDecided.{decided-KeepsGroups}
+use Rattle.pj_bind.proofs.CauseLemmas.{Each, when-none, First-one, First-none, First-or-none}
+use Rattle.pj_bind.proofs.AtLemmas.{causes_at-none, asked_of-none}
+use Rattle.pj_bind.proofs.FormLemmas.{causes-one, causes-decided, decided-IsBuilt, KindsAre-decided}
 
--- ---- names that repeat
+-- ---- names
 
--- where none repeats, none is the first that does
-IsFirstRepeat-none : (names : List Name) (a : Name) → NoneRepeats names → IsFirstRepeat names a → ⊥
-IsFirstRepeat-none names a none f = none f.at a f.there f.repeats
+-- where no repeat is told, none repeats
+once : (ns : List Name) → GivesNone (DuplicateColumn naming IsFirstRepeat ns) → NoneRepeats ns
+once ns none = NoneRepeats-from_none ns (λ name is. none (DuplicateColumn name) (name, refl, is))
 
--- no name repeats an earlier one before the first that does
-IsFirstRepeat-before : (names : List Name) (a b : Name) (f : IsFirstRepeat names a)
-    (g : IsFirstRepeat names b) → f.at < g.at → ⊥
-IsFirstRepeat-before names a b f g lt =
-    let within : f.at < length names = slice_get_within names f.at a f.there in
-    let short : f.at < length (take g.at names) = omega (arith, length-take g.at names) in
-    let there : slice_get (take g.at names) f.at ≡ Some a =
-    slice_get-get_or (take g.at names) f.at a short
-    ∙ ap Some (get_or-take g.at names f.at a lt ∙ get_or_from_slice_get names f.at a a f.there) in
-    g.before f.at a there
-    (subst (λ (xs : List Name). Contains xs a) (sym (take-take f.at g.at names (omega arith))) f.repeats)
-
--- the first name that repeats is one
-IsFirstRepeat-one : (names : List Name) (a b : Name) → IsFirstRepeat names a → IsFirstRepeat names b → a ≡ b
-IsFirstRepeat-one names a b f g =
-    ⊎_elim (λ lt. absurd (IsFirstRepeat-before names a b f g lt))
-    (λ ge. ⊎_elim (λ lt. absurd (IsFirstRepeat-before names b a g f lt))
-    (λ le. let at : f.at ≡ g.at = omega arith in
-    same_Some a b (sym f.there ∙ ap (slice_get names) at ∙ g.there))
-    (cases_lt g.at f.at))
-    (cases_lt f.at g.at)
-
--- ---- tables by their names
-
--- a name with a table isn't unknown
-IsUnknown-at : (tables : List Table) (name : Name) (at : ℕ) (table : Table)
-    → IsTableAt tables name at table → IsUnknown tables name → ⊥
-IsUnknown-at tables name at table there unknown = unknown (Contains-at tables name at (table, there))
-
--- two numbers of tables of one name are one
-place-same : (tables : List Table) (name : Name) (i j : ℕ) (a b : Table) → HasUniqueNames tables
-    → IsTableAt tables name i a → IsTableAt tables name j b → i ≡ j
-place-same tables name i j a b unique first other =
-    unique i j a b first.0 other.0 (first.1 ∙ sym other.1)
-
--- and so are two tables of one name
-table-same : (tables : List Table) (name : Name) (i j : ℕ) (a b : Table) → HasUniqueNames tables
-    → IsTableAt tables name i a → IsTableAt tables name j b → a ≡ b
-table-same tables name i j a b unique first other =
-    same_Some a b (sym first.0
-    ∙ ap (slice_get tables) (place-same tables name i j a b unique first other) ∙ other.0)
+-- where no unknown one is told, all are known
+all_known : (known ns : List Name) → GivesNone (UnknownIdentifier naming IsFirstUnknown known ns)
+    → first_unknown known ns ≡ None
+all_known known ns none =
+    known-from_none known ns (λ name is. none (UnknownIdentifier name) (name, refl, is))
 
 -- ---- CREATE
 
 module _ (tables : List Table) (name : Name) (columns : List TreeColumn) (key : List Name) where
-  -- the first name of columns and key that repeats is one
-  RepeatsFirst-one : (a b : Name) → RepeatsFirst columns key a → RepeatsFirst columns key b → a ≡ b
-  RepeatsFirst-one a b (inl f) (inl g) = IsFirstRepeat-one (new_names columns) a b f g
-  RepeatsFirst-one a b (inl f) (inr g) = absurd (IsFirstRepeat-none (new_names columns) a g.0 f)
-  RepeatsFirst-one a b (inr f) (inl g) = absurd (IsFirstRepeat-none (new_names columns) b f.0 g)
-  RepeatsFirst-one a b (inr f) (inr g) = IsFirstRepeat-one key a b f.1 g.1
+  -- a CREATE that can be done has no cause against it
+  CanBeCreated-none : CanBeCreated tables name columns key
+      → Each GivesNone (create_causes tables name columns key)
+  CanBeCreated-none can = (
+    when-none (TableExists name) (Contains (names tables) name) can.room.unknown,
+    (
+      when-none (Limit Tables) (table_limit ≤ length tables)
+          (λ full. omega (arith, full, can.room.tables_left)),
+      (
+        when-none (Limit Columns) (column_limit < length columns)
+            (λ many. omega (arith, many, can.room.few_columns)),
+        (
+          repeat-none (new_names columns) can.once.0,
+          (repeat-none key can.once.1, (unknown-none (new_names columns) key can.known, tt)),
+        ),
+      ),
+    ),
+  )
 
-  -- and there is none where none repeats
-  RepeatsFirst-once : (a : Name) → AreOnce columns key → RepeatsFirst columns key a → ⊥
-  RepeatsFirst-once a once (inl f) = IsFirstRepeat-none (new_names columns) a once.0 f
-  RepeatsFirst-once a once (inr f) = IsFirstRepeat-none key a once.1 f.1
-
-  -- a CREATE is refused in one way
-  IsCreateRefusal-one : (a b : Refusal) → IsCreateRefusal tables name columns key a
-      → IsCreateRefusal tables name columns key b → a ≡ b
-  IsCreateRefusal-one (TableExists x) (TableExists y) r s = ap TableExists (r.0 ∙ sym s.0)
-  IsCreateRefusal-one (TableExists x) (Limit Tables) r s = absurd (s.0 r.1)
-  IsCreateRefusal-one (TableExists x) (Limit Columns) r s = absurd (s.0 r.1)
-  IsCreateRefusal-one (TableExists x) (DuplicateColumn y) r s = absurd (s.0.unknown r.1)
-  IsCreateRefusal-one (TableExists x) (UnknownIdentifier y) r s = absurd (s.0.unknown r.1)
-  IsCreateRefusal-one (Limit Tables) (TableExists y) r s = absurd (r.0 s.1)
-  IsCreateRefusal-one (Limit Tables) (Limit Tables) r s = refl
-  IsCreateRefusal-one (Limit Tables) (Limit Columns) r s = absurd (omega (arith, r.1, s.1))
-  IsCreateRefusal-one (Limit Tables) (DuplicateColumn y) r s = absurd (omega (arith, r.1, s.0.tables_left))
-  IsCreateRefusal-one (Limit Tables) (UnknownIdentifier y) r s = absurd (omega (arith, r.1, s.0.tables_left))
-  IsCreateRefusal-one (Limit Columns) (TableExists y) r s = absurd (r.0 s.1)
-  IsCreateRefusal-one (Limit Columns) (Limit Tables) r s = absurd (omega (arith, r.1, s.1))
-  IsCreateRefusal-one (Limit Columns) (Limit Columns) r s = refl
-  IsCreateRefusal-one (Limit Columns) (DuplicateColumn y) r s = absurd (omega (arith, r.2, s.0.few_columns))
-  IsCreateRefusal-one (Limit Columns) (UnknownIdentifier y) r s = absurd (omega (arith, r.2, s.0.few_columns))
-  IsCreateRefusal-one (DuplicateColumn x) (TableExists y) r s = absurd (r.0.unknown s.1)
-  IsCreateRefusal-one (DuplicateColumn x) (Limit Tables) r s = absurd (omega (arith, s.1, r.0.tables_left))
-  IsCreateRefusal-one (DuplicateColumn x) (Limit Columns) r s = absurd (omega (arith, s.2, r.0.few_columns))
-  IsCreateRefusal-one (DuplicateColumn x) (DuplicateColumn y) r s =
-      ap DuplicateColumn (RepeatsFirst-one x y r.1 s.1)
-  IsCreateRefusal-one (DuplicateColumn x) (UnknownIdentifier y) r s = absurd (RepeatsFirst-once x s.1 r.1)
-  IsCreateRefusal-one (UnknownIdentifier x) (TableExists y) r s = absurd (r.0.unknown s.1)
-  IsCreateRefusal-one (UnknownIdentifier x) (Limit Tables) r s = absurd (omega (arith, s.1, r.0.tables_left))
-  IsCreateRefusal-one (UnknownIdentifier x) (Limit Columns) r s = absurd (omega (arith, s.2, r.0.few_columns))
-  IsCreateRefusal-one (UnknownIdentifier x) (DuplicateColumn y) r s = absurd (RepeatsFirst-once y r.1 s.1)
-  IsCreateRefusal-one (UnknownIdentifier x) (UnknownIdentifier y) r s =
-      ap UnknownIdentifier (same_Some x y (sym r.2 ∙ s.2))
-  IsCreateRefusal-one (Limit Tokens) b r s = absurd r
-  IsCreateRefusal-one (Limit Text) b r s = absurd r
-  IsCreateRefusal-one (Limit History) b r s = absurd r
-  IsCreateRefusal-one (Syntax at) b r s = absurd r
-  IsCreateRefusal-one (UnknownTable x) b r s = absurd r
-  IsCreateRefusal-one NotBuilt b r s = absurd r
-  IsCreateRefusal-one TypeMismatch b r s = absurd r
-  IsCreateRefusal-one NotAnAggregate b r s = absurd r
-  IsCreateRefusal-one NoMemory b r s = absurd r
-  IsCreateRefusal-one a b r s = absurd s
-
-  -- a CREATE that can be done isn't refused
-  IsCreateRefusal-can : (a : Refusal) → CanBeCreated tables name columns key
-      → IsCreateRefusal tables name columns key a → ⊥
-  IsCreateRefusal-can (TableExists x) can r = can.room.unknown r.1
-  IsCreateRefusal-can (Limit Tables) can r = omega (arith, r.1, can.room.tables_left)
-  IsCreateRefusal-can (Limit Columns) can r = omega (arith, r.2, can.room.few_columns)
-  IsCreateRefusal-can (DuplicateColumn x) can r = RepeatsFirst-once x can.once r.1
-  IsCreateRefusal-can (UnknownIdentifier x) can r = none-some x (sym can.known ∙ r.2)
-  IsCreateRefusal-can (Limit Tokens) can r = r
-  IsCreateRefusal-can (Limit Text) can r = r
-  IsCreateRefusal-can (Limit History) can r = r
-  IsCreateRefusal-can (Syntax at) can r = r
-  IsCreateRefusal-can (UnknownTable x) can r = r
-  IsCreateRefusal-can NotBuilt can r = r
-  IsCreateRefusal-can TypeMismatch can r = r
-  IsCreateRefusal-can NotAnAggregate can r = r
-  IsCreateRefusal-can NoMemory can r = r
+  -- one with none can be done
+  CanBeCreated-from_none : Each GivesNone (create_causes tables name columns key)
+      → CanBeCreated tables name columns key
+  CanBeCreated-from_none (new, (left, (few, (columns_once, (key_once, (known, end)))))) = record {
+    room = record {
+      unknown = λ taken. new (TableExists name) (refl, taken);
+      tables_left =
+          ⊎_elim (λ lt. lt) (λ full. absurd (left (Limit Tables) (refl, full)))
+          (cases_lt (length tables) table_limit);
+      few_columns =
+          ⊎_elim (λ many. absurd (few (Limit Columns) (refl, many))) (λ le. le)
+          (cases_lt column_limit (length columns));
+    };
+    once = (once (new_names columns) columns_once, once key key_once);
+    known = all_known (new_names columns) key known;
+  }
 
 -- ---- INSERT
 
 module _ (table : Table) (listed : Option (List Name)) (rows : List (List Value)) where
-  -- an INSERT into a table is refused in one way
-  IsInsertRefusal-one : (a b : Refusal) → IsInsertRefusal table listed rows a
-      → IsInsertRefusal table listed rows b → a ≡ b
-  IsInsertRefusal-one (DuplicateColumn x) (DuplicateColumn y) r s =
-      ap DuplicateColumn (IsFirstRepeat-one (listed_names listed) x y r s)
-  IsInsertRefusal-one (DuplicateColumn x) (UnknownIdentifier y) r s =
-      absurd (IsFirstRepeat-none (listed_names listed) x s.0 r)
-  IsInsertRefusal-one (DuplicateColumn x) TypeMismatch r s =
-      absurd (IsFirstRepeat-none (listed_names listed) x s.0.0 r)
-  IsInsertRefusal-one (UnknownIdentifier x) (DuplicateColumn y) r s =
-      absurd (IsFirstRepeat-none (listed_names listed) y r.0 s)
-  IsInsertRefusal-one (UnknownIdentifier x) (UnknownIdentifier y) r s =
-      ap UnknownIdentifier (same_Some x y (sym r.1 ∙ s.1))
-  IsInsertRefusal-one (UnknownIdentifier x) TypeMismatch r s = absurd (none-some x (sym s.0.1 ∙ r.1))
-  IsInsertRefusal-one TypeMismatch (DuplicateColumn y) r s =
-      absurd (IsFirstRepeat-none (listed_names listed) y r.0.0 s)
-  IsInsertRefusal-one TypeMismatch (UnknownIdentifier y) r s = absurd (none-some y (sym r.0.1 ∙ s.1))
-  IsInsertRefusal-one TypeMismatch TypeMismatch r s = refl
-  IsInsertRefusal-one (Limit limit) b r s = absurd r
-  IsInsertRefusal-one (Syntax at) b r s = absurd r
-  IsInsertRefusal-one (UnknownTable x) b r s = absurd r
-  IsInsertRefusal-one (TableExists x) b r s = absurd r
-  IsInsertRefusal-one NotBuilt b r s = absurd r
-  IsInsertRefusal-one NotAnAggregate b r s = absurd r
-  IsInsertRefusal-one NoMemory b r s = absurd r
-  IsInsertRefusal-one a b r s = absurd s
+  -- an INSERT whose rows fill the table has no cause against it
+  FillColumns-none : AreColumns table listed → FillColumns table.columns listed rows
+      → Each GivesNone (asked_of table (insert_causes listed rows))
+  FillColumns-none are fill = (
+    repeat-none (listed_names listed) are.0,
+    (
+      unknown-none (column_names table.columns) (listed_names listed) are.1,
+      (
+        when-none TypeMismatch (FillColumns table.columns listed rows → ⊥) (λ misfit. misfit fill),
+        tt,
+      ),
+    ),
+  )
 
-  -- an INSERT whose rows fill the table isn't refused
-  IsInsertRefusal-fill : (a : Refusal) → AreColumns table listed → FillColumns table.columns listed rows
-      → IsInsertRefusal table listed rows a → ⊥
-  IsInsertRefusal-fill (DuplicateColumn x) are fill r = IsFirstRepeat-none (listed_names listed) x are.0 r
-  IsInsertRefusal-fill (UnknownIdentifier x) are fill r = none-some x (sym are.1 ∙ r.1)
-  IsInsertRefusal-fill TypeMismatch are fill r = r.1 fill
-  IsInsertRefusal-fill (Limit limit) are fill r = r
-  IsInsertRefusal-fill (Syntax at) are fill r = r
-  IsInsertRefusal-fill (UnknownTable x) are fill r = r
-  IsInsertRefusal-fill (TableExists x) are fill r = r
-  IsInsertRefusal-fill NotBuilt are fill r = r
-  IsInsertRefusal-fill NotAnAggregate are fill r = r
-  IsInsertRefusal-fill NoMemory are fill r = r
+  -- the rows of one with none fill the table
+  FillColumns-from_none : Each GivesNone (asked_of table (insert_causes listed rows))
+      → AreColumns table listed × FillColumns table.columns listed rows
+  FillColumns-from_none (no_repeat, (no_unknown, (no_misfit, end))) = (
+    (
+      once (listed_names listed) no_repeat,
+      all_known (column_names table.columns) (listed_names listed) no_unknown,
+    ),
+    holds (decided-FillColumns table.columns listed rows) (λ misfit. no_misfit TypeMismatch (refl, misfit)),
+  )
 
 -- ---- SELECT
 
@@ -204,151 +125,143 @@ module _ (table : Table) (select : TreeSelect) where
   KindsAre-one : (p q : Query) → KindsAre table select p → KindsAre table select q → p ≡ q
   KindsAre-one p q r s = same_Some p q (sym r.made ∙ s.made)
 
-  -- a SELECT from a table is refused in one way
-  IsSelectRefusal-one : (a b : Refusal) → IsSelectRefusal table select a → IsSelectRefusal table select b
-      → a ≡ b
-  IsSelectRefusal-one (UnknownIdentifier x) (UnknownIdentifier y) r s =
-      ap UnknownIdentifier (same_Some x y (sym r ∙ s))
-  IsSelectRefusal-one (UnknownIdentifier x) TypeMismatch r s = absurd (none-some x (sym s.0 ∙ r))
-  IsSelectRefusal-one (UnknownIdentifier x) NotAnAggregate r s = absurd (none-some x (sym s.0 ∙ r))
-  IsSelectRefusal-one TypeMismatch (UnknownIdentifier y) r s = absurd (none-some y (sym r.0 ∙ s))
-  IsSelectRefusal-one TypeMismatch TypeMismatch r s = refl
-  IsSelectRefusal-one TypeMismatch NotAnAggregate r (known, (query, kinds, broken)) = absurd (r.1 query kinds)
-  IsSelectRefusal-one NotAnAggregate (UnknownIdentifier y) r s = absurd (none-some y (sym r.0 ∙ s))
-  IsSelectRefusal-one NotAnAggregate TypeMismatch (known, (query, kinds, broken)) s = absurd (s.1 query kinds)
-  IsSelectRefusal-one NotAnAggregate NotAnAggregate r s = refl
-  IsSelectRefusal-one (Limit limit) b r s = absurd r
-  IsSelectRefusal-one (Syntax at) b r s = absurd r
-  IsSelectRefusal-one (UnknownTable x) b r s = absurd r
-  IsSelectRefusal-one (TableExists x) b r s = absurd r
-  IsSelectRefusal-one (DuplicateColumn x) b r s = absurd r
-  IsSelectRefusal-one NotBuilt b r s = absurd r
-  IsSelectRefusal-one NoMemory b r s = absurd r
-  IsSelectRefusal-one a b r s = absurd s
+  -- a SELECT that asks for a query has no cause against it
+  Asks-none : (query : Query) → Asks table select query
+      → Each GivesNone (asked_of table (select_causes select))
+  Asks-none query asks = (
+    unknown-none (column_names table.columns) (column_names_of select) asks.known,
+    (
+      when-none TypeMismatch ((q : Query) → KindsAre table select q → ⊥)
+          (λ no_query. no_query query asks.kinds),
+      (
+        when-none NotAnAggregate (BreaksGroups table select)
+            (λ breaks. breaks.2 (subst KeepsGroups (KindsAre-one query breaks.0 asks.kinds breaks.1) asks.groups)),
+        tt,
+      ),
+    ),
+  )
 
-  -- a SELECT that asks for a query isn't refused
-  IsSelectRefusal-asks : (a : Refusal) (query : Query) → Asks table select query
-      → IsSelectRefusal table select a → ⊥
-  IsSelectRefusal-asks (UnknownIdentifier x) query asks r = none-some x (sym asks.known ∙ r)
-  IsSelectRefusal-asks TypeMismatch query asks r = r.1 query asks.kinds
-  IsSelectRefusal-asks NotAnAggregate query asks (known, (other, kinds, broken)) =
-      broken (subst KeepsGroups (KindsAre-one query other asks.kinds kinds) asks.groups)
-  IsSelectRefusal-asks (Limit limit) query asks r = r
-  IsSelectRefusal-asks (Syntax at) query asks r = r
-  IsSelectRefusal-asks (UnknownTable x) query asks r = r
-  IsSelectRefusal-asks (TableExists x) query asks r = r
-  IsSelectRefusal-asks (DuplicateColumn x) query asks r = r
-  IsSelectRefusal-asks NotBuilt query asks r = r
-  IsSelectRefusal-asks NoMemory query asks r = r
+  -- one with none asks for a query
+  Asks-from_none : Each GivesNone (asked_of table (select_causes select))
+      → (query : Query) × Asks table select query
+  Asks-from_none (no_unknown, (no_mismatch, (no_break, end))) =
+      elim (KindsAre-decided table select) [
+        | inr none ↦ absurd (no_mismatch TypeMismatch (refl, none))
+        | inl (query, kinds) ↦ (
+          query,
+          record {
+            known = all_known (column_names table.columns) (column_names_of select) no_unknown;
+            kinds = kinds;
+            groups =
+                holds (decided-KeepsGroups query)
+                (λ broken. no_break NotAnAggregate (refl, (query, kinds, broken)));
+          },
+        )
+      ]
 
 -- ---- statements
 
-module _ (tables : List Table) (unique : HasUniqueNames tables) where
-  -- a statement whose tables refuse it is refused in one way
-  named-one : (name : Name) (refuses : Table → Refusal → Type 0)
-      → ((t : Table) (a b : Refusal) → refuses t a → refuses t b → a ≡ b) → (a b : Refusal)
-      → TellsUnknown tables name a ⊎ RefusedAt tables name (λ t. refuses t a)
-      → TellsUnknown tables name b ⊎ RefusedAt tables name (λ t. refuses t b) → a ≡ b
-  named-one name refuses one a b (inl u) (inl v) = u.0 ∙ sym v.0
-  named-one name refuses one a b (inl u) (inr (j, t, there, against)) =
-      absurd (IsUnknown-at tables name j t there u.1)
-  named-one name refuses one a b (inr (i, s, here, against)) (inl v) =
-      absurd (IsUnknown-at tables name i s here v.1)
-  named-one name refuses one a b (inr (i, s, here, against)) (inr (j, t, there, also)) =
-      let same : s ≡ t = table-same tables name i j s t unique here there in
-      one t a b (subst (λ (x : Table). refuses x a) same against) also
+module _ (tables : List Table) where
+  -- a statement that binds has no cause of its form against it
+  IsBound-none : (statement : Statement) (bound : Bound) → IsBound tables statement bound
+      → Each GivesNone (form_causes tables statement)
+  IsBound-none (statements.Create name columns projections key settings) bound b =
+      CanBeCreated-none tables name columns key b.0
+  IsBound-none (statements.Insert name listed rows) bound (i, table, here, are, fill, is) =
+      causes_at-none tables name i table here (insert_causes listed rows)
+      (FillColumns-none table listed rows are fill)
+  IsBound-none (statements.Select select) bound (i, table, here, (query, asks, is)) =
+      causes_at-none tables select.table i table here (select_causes select)
+      (Asks-none table select query asks)
+  IsBound-none statement bound b = absurd b
 
-  -- a statement that its table doesn't refuse isn't refused
-  named-bound : (name : Name) (refuses : Table → Type 0) (refusal : Refusal) (i : ℕ) (table : Table)
-      → IsTableAt tables name i table → (refuses table → ⊥)
-      → TellsUnknown tables name refusal ⊎ RefusedAt tables name refuses → ⊥
-  named-bound name refuses refusal i table here fine (inl u) = IsUnknown-at tables name i table here u.1
-  named-bound name refuses refusal i table here fine (inr (j, t, there, against)) =
-      fine (subst refuses (sym (table-same tables name i j table t unique here there)) against)
+  -- a table that isn't unknown is there
+  there : (name : Name) → GivesNone (UnknownTable name when IsUnknown tables name)
+      → (place : ℕ) × (table : Table) × IsTableAt tables name place table
+  there name none =
+      elim (unknown-or-at tables name) [
+        | inl unknown ↦ absurd (none (UnknownTable name) (refl, unknown))
+        | inr (place, (table, at)) ↦ (place, table, at)
+      ]
 
-  -- a statement of a built form is refused in one way
-  IsRefusedBy-one : (statement : Statement) (a b : Refusal) → IsRefusedBy tables statement a
-      → IsRefusedBy tables statement b → a ≡ b
-  IsRefusedBy-one (statements.Create name columns projections key settings) a b r s =
-      IsCreateRefusal-one tables name columns key a b r s
-  IsRefusedBy-one (statements.Insert name columns rows) a b r s =
-      named-one name (λ t. IsInsertRefusal t columns rows) (λ t. IsInsertRefusal-one t columns rows) a b r s
-  IsRefusedBy-one (statements.Select select) a b r s =
-      named-one select.table (λ t. IsSelectRefusal t select) (λ t. IsSelectRefusal-one t select) a b r s
-  IsRefusedBy-one (statements.Explain select) a b r s = absurd r
-  IsRefusedBy-one (statements.Delete name filter sets) a b r s = absurd r
-  IsRefusedBy-one (statements.Alter name action sets) a b r s = absurd r
-  IsRefusedBy-one (statements.Optimize name) a b r s = absurd r
-  IsRefusedBy-one (statements.Set sets) a b r s = absurd r
-  IsRefusedBy-one (statements.Merge name) a b r s = absurd r
-  IsRefusedBy-one (statements.Mutate name) a b r s = absurd r
-
-  -- a statement that binds isn't refused by the tables
-  IsRefusedBy-bound : (statement : Statement) (bound : Bound) (a : Refusal) → IsBound tables statement bound
-      → IsRefusedBy tables statement a → ⊥
-  IsRefusedBy-bound (statements.Create name columns projections key settings) bound a b r =
-      IsCreateRefusal-can tables name columns key a b.0 r
-  IsRefusedBy-bound (statements.Insert name columns rows) bound a (i, table, here, are, fill, is) r =
-      named-bound name (λ t. IsInsertRefusal t columns rows a) a i table here
-      (IsInsertRefusal-fill table columns rows a are fill) r
-  IsRefusedBy-bound (statements.Select select) bound a (i, table, here, (query, asks, is)) r =
-      named-bound select.table (λ t. IsSelectRefusal t select a) a i table here
-      (IsSelectRefusal-asks table select a query asks) r
-  IsRefusedBy-bound (statements.Explain select) bound a b r = b
-  IsRefusedBy-bound (statements.Delete name filter sets) bound a b r = b
-  IsRefusedBy-bound (statements.Alter name action sets) bound a b r = b
-  IsRefusedBy-bound (statements.Optimize name) bound a b r = b
-  IsRefusedBy-bound (statements.Set sets) bound a b r = b
-  IsRefusedBy-bound (statements.Merge name) bound a b r = b
-  IsRefusedBy-bound (statements.Mutate name) bound a b r = b
+  -- a statement of a built form with none binds
+  IsBound-from_none : (statement : Statement) → IsBuilt statement
+      → Each GivesNone (form_causes tables statement) → (bound : Bound) × IsBound tables statement bound
+  IsBound-from_none (statements.Create name columns projections key settings) built none = (
+    bounds.Create (table_of name columns key settings),
+    (CanBeCreated-from_none tables name columns key none, refl),
+  )
+  IsBound-from_none (statements.Insert name listed rows) built none =
+      let (place, table, at) = there name none.0 in
+      let fill =
+      FillColumns-from_none table listed rows
+      (asked_of-none tables name place table at (insert_causes listed rows) none.1) in (
+        bounds.Insert place (record {
+          kinds = kinds_of table;
+          rows = filled_rows table.columns listed rows;
+        }),
+        (place, table, at, fill.0, fill.1, refl),
+      )
+  IsBound-from_none (statements.Select select) built none =
+      let (place, table, at) = there select.table none.0 in
+      let (query, asks) =
+      Asks-from_none table select
+      (asked_of-none tables select.table place table at (select_causes select) none.1) in
+      (bounds.Select place query, (place, table, at, (query, asks, refl)))
+  IsBound-from_none statement built none = absurd built
 
   -- a statement binds in one way
   IsBound-one : (statement : Statement) (a b : Bound) → IsBound tables statement a
       → IsBound tables statement b → a ≡ b
   IsBound-one (statements.Create name columns projections key settings) a b r s = r.1 ∙ sym s.1
   IsBound-one (statements.Insert name columns rows) a b (i, s, here, are, fill, is)
-      (j, t, there, also, filled, made) =
-      let place : i ≡ j = place-same tables name i j s t unique here there in
-      let table : s ≡ t = table-same tables name i j s t unique here there in
+      (j, t, at, also, filled, made) =
+      let place : i ≡ j = place-same tables name i j s t here at in
+      let table : s ≡ t = table-same tables name i j s t here at in
       is
       ∙ ap (λ (k : ℕ). bounds.Insert k
       (record { kinds = kinds_of s; rows = filled_rows s.columns columns rows })) place
       ∙ ap (λ (x : Table). bounds.Insert j
       (record { kinds = kinds_of x; rows = filled_rows x.columns columns rows })) table
       ∙ sym made
-  IsBound-one (statements.Select select) a b (i, s, here, (p, asks, is)) (j, t, there, (q, too, made)) =
-      let place : i ≡ j = place-same tables select.table i j s t unique here there in
-      let table : s ≡ t = table-same tables select.table i j s t unique here there in
+  IsBound-one (statements.Select select) a b (i, s, here, (p, asks, is)) (j, t, at, (q, too, made)) =
+      let place : i ≡ j = place-same tables select.table i j s t here at in
+      let table : s ≡ t = table-same tables select.table i j s t here at in
       let query : p ≡ q =
       KindsAre-one t select p q
       (subst (λ (x : Table). KindsAre x select p) table asks.kinds) too.kinds in
       is ∙ ap (λ (k : ℕ). bounds.Select k p) place ∙ ap (λ (x : Query). bounds.Select j x) query ∙ sym made
-  IsBound-one (statements.Explain select) a b r s = absurd r
-  IsBound-one (statements.Delete name filter sets) a b r s = absurd r
-  IsBound-one (statements.Alter name action sets) a b r s = absurd r
-  IsBound-one (statements.Optimize name) a b r s = absurd r
-  IsBound-one (statements.Set sets) a b r s = absurd r
-  IsBound-one (statements.Merge name) a b r s = absurd r
-  IsBound-one (statements.Mutate name) a b r s = absurd r
+  IsBound-one statement a b r s = absurd r
 
 -- ---- the laws
 
 -- a statement is refused in one way
 pub one_refusal : OneRefusal
-one_refusal tables statement a b unique (inl r) (inl s) = r.0 ∙ sym s.0
-one_refusal tables statement a b unique (inl r) (inr s) = absurd (r.1 s.0)
-one_refusal tables statement a b unique (inr r) (inl s) = absurd (s.1 r.0)
-one_refusal tables statement a b unique (inr r) (inr s) = IsRefusedBy-one tables unique statement a b r.1 s.1
-
--- what binds isn't refused
-pub bound_or_refused : BoundOrRefused
-bound_or_refused tables statement bound refusal unique built binds (inl r) = r.1 built
-bound_or_refused tables statement bound refusal unique built binds (inr r) =
-    IsRefusedBy-bound tables unique statement bound refusal binds r.1
+one_refusal tables statement = First-one (causes tables statement) (causes-one tables statement)
 
 -- a statement binds in one way
 pub one_bound : OneBound
-one_bound tables statement a b unique r s = IsBound-one tables unique statement a b r s
+one_bound tables statement = IsBound-one tables statement
+
+-- what binds isn't refused
+pub no_bound_is_refused : NoBoundIsRefused
+no_bound_is_refused tables statement bound refusal built binds =
+    First-none (causes tables statement) (
+      when-none NotBuilt (IsBuilt statement → ⊥) (λ not_built. not_built built),
+      IsBound-none tables statement bound binds,
+    ) refusal
+
+-- each statement binds or is refused
+pub bound_or_refused : BoundOrRefused
+bound_or_refused tables statement =
+    elim (First-or-none (causes tables statement) (causes-decided tables statement)) [
+      | inl refused ↦ inr refused
+      | inr none ↦
+          let built : IsBuilt statement =
+          holds (decided-IsBuilt statement) (λ not_built. none.0 NotBuilt (refl, not_built)) in
+          let (bound, binds) = IsBound-from_none tables statement built none.1 in
+          inl (bound, built, binds)
+    ]
 
 -- a query with its kinds and its groups fits
 fits : (table : Table) (select : TreeSelect) (query : Query) → Asks table select query

@@ -1,6 +1,7 @@
 -- Why a statement is refused, from what its parts are.
 use Rattle.std.proofs.Common.{◌≡◌, ℕ, ◌<◌, ◌≤◌, List, length, true, false, Option, Some, None, Bor}
-use Rattle.std.proofs.Common.{Result, Ok, Err, IfOk, OnOk, IfErr, MatchOption, Contains, sym, ◌∙◌, subst}
+use Rattle.std.proofs.Common.{Result, Ok, Err, IfErr, MatchOption, Contains, refl, sym, subst}
+use Rattle.std.proofs.Common.{inl, inr, arith}
 use Rattle.std.specs.Option.{is_some}
 use Rattle.std.proofs.lemmas.Bool.{false≢true}
 use Rattle.std.proofs.lemmas.Option.{same_Some, none-some}
@@ -13,13 +14,21 @@ use Rattle.pj_expr.specs.Tables.{names, kinds_of}
 use Rattle.pj_expr.specs.Fits.{KeepsKinds, KeepsGroups}
 use Rattle.pj_bind.specs.declared.binding.BindFault.{BindFault}
 use Rattle.pj_bind.specs.declared.binding.BindFault.TheVariants as faults
+use Rattle.pj_bind.specs.declared.types.LimitName.TheVariants.{Tables, Columns}
 use Rattle.pj_bind.specs.declared.types.Refusal.{Refusal}
-use Rattle.pj_bind.specs.declared.types.Refusal.TheVariants.{TypeMismatch, NotAnAggregate}
-use Rattle.pj_bind.specs.Names.{Name, NoneRepeats, IsFirstRepeat}
-use Rattle.pj_bind.specs.Queries.{query_of}
-use Rattle.pj_bind.specs.Binding.{IsUnknown, HasRoom, AreKnown, IsSelectRefusal, Asks}
+use Rattle.pj_bind.specs.declared.types.Refusal.TheVariants.{Limit, TableExists, DuplicateColumn}
+use Rattle.pj_bind.specs.declared.types.Refusal.TheVariants.{UnknownIdentifier, TypeMismatch, NotAnAggregate}
+use Rattle.pj_bind.specs.Names.{Name, first_unknown, IsFirstUnknown, NoneRepeats, IsFirstRepeat}
+use Rattle.pj_bind.specs.Filling.{column_names}
+use Rattle.pj_bind.specs.Queries.{column_names_of, query_of}
+use Rattle.pj_bind.specs.Causes.{◌when◌, ◌naming◌, GivesNone, First}
+use Rattle.pj_bind.specs.Binding.{table_limit, column_limit, IsUnknown, new_names, HasRoom, AreOnce}
+use Rattle.pj_bind.specs.Binding.{create_causes, AreKnown, KindsAre, select_causes}
+use Rattle.pj_bind.specs.Binding.{asked_of}
 use Rattle.pj_bind.specs.Faults.{IsFault, IsAt}
+use Rattle.pj_bind.proofs.RepeatLemmas.{IsFirstRepeat-none, IsFirstUnknown-none}
 use Rattle.pj_bind.proofs.TableLemmas.{Contains-at}
+use Rattle.pj_bind.proofs.CauseLemmas.{when-none, naming-none}
 
 -- a fault that is one refusal
 pub IsFault-is : (refuses : Refusal → Type 0) (fault : BindFault) (refusal : Refusal)
@@ -39,7 +48,7 @@ module _ (tables : List Table) (name : Name) where
   -- a table was found
   pub table-found : (o : Option ℕ) → is_some o ≡ true
       → MatchOption o (IsUnknown tables name) (IsAt tables name) → Contains (names tables) name
-  table-found (Some place) e at = Contains-at tables name place at
+  table-found (Some place) e (table, at) = Contains-at tables name place table at.0 at.1
   table-found None e unknown = absurd (false≢true e)
 
   -- none was, and there is room
@@ -65,44 +74,97 @@ module _ (xs ys : List Name) (same : xs ≡ ys) where
       (subst (λ (n : Bor Text). IsFirstRepeat xs n.now) (same_Some other name e) found)
   IsFirstRepeat-from None name e none = absurd (none-some name e)
 
+-- where none repeats, no repeat is told
+pub repeat-none : (ns : List Name) → NoneRepeats ns → GivesNone (DuplicateColumn naming IsFirstRepeat ns)
+repeat-none ns once = naming-none DuplicateColumn (IsFirstRepeat ns) (IsFirstRepeat-none ns once)
+
+-- where all are known, no unknown one is told
+pub unknown-none : (known ns : List Name) → first_unknown known ns ≡ None
+    → GivesNone (UnknownIdentifier naming IsFirstUnknown known ns)
+unknown-none known ns all =
+    naming-none UnknownIdentifier (IsFirstUnknown known ns) (IsFirstUnknown-none known ns all)
+
+-- ---- CREATE
+
+module _ (tables : List Table) (name : Name) (columns : List TreeColumn) (key : List Name) where
+  -- the name is new
+  taken-none : IsUnknown tables name → GivesNone (TableExists name when Contains (names tables) name)
+  taken-none unknown = when-none (TableExists name) (Contains (names tables) name) unknown
+
+  -- there are not too many tables
+  full-none : length tables < table_limit → GivesNone (Limit Tables when (table_limit ≤ length tables))
+  full-none left =
+      when-none (Limit Tables) (table_limit ≤ length tables) (λ full. omega (arith, full, left))
+
+  -- nor columns
+  many-none : length columns ≤ column_limit → GivesNone (Limit Columns when (column_limit < length columns))
+  many-none few =
+      when-none (Limit Columns) (column_limit < length columns) (λ many. omega (arith, many, few))
+
+  -- a name that repeats, or an unknown one, where nothing before it refuses
+  module _ (room : HasRoom tables name columns) where
+    pub create-column : (n : Name) → IsFirstRepeat (new_names columns) n
+        → First (create_causes tables name columns key) (DuplicateColumn n)
+    create-column n is =
+        inr (
+          taken-none room.unknown,
+          inr (
+            full-none room.tables_left,
+            inr (many-none room.few_columns, inl (n, refl, is)),
+          ),
+        )
+
+    pub create-key : NoneRepeats (new_names columns) → (n : Name) → IsFirstRepeat key n
+        → First (create_causes tables name columns key) (DuplicateColumn n)
+    create-key once n is =
+        inr (
+          taken-none room.unknown,
+          inr (
+            full-none room.tables_left,
+            inr (many-none room.few_columns, inr (repeat-none (new_names columns) once, inl (n, refl, is))),
+          ),
+        )
+
+    pub create-unknown : AreOnce columns key → (n : Name) → IsFirstUnknown (new_names columns) key n
+        → First (create_causes tables name columns key) (UnknownIdentifier n)
+    create-unknown once n is =
+        inr (
+          taken-none room.unknown,
+          inr (
+            full-none room.tables_left,
+            inr (
+              many-none room.few_columns,
+              inr (
+                repeat-none (new_names columns) once.0,
+                inr (repeat-none key once.1, inl (n, refl, is)),
+              ),
+            ),
+          ),
+        )
+
 -- ---- SELECT
 
 module _ (table : Table) (select : TreeSelect) (query : Query) (known : AreKnown table select)
-    (made : query_of table.columns select ≡ Some query) where
-  -- a part doesn't fit the kinds
-  pub IsSelectRefusal-kinds : (fault : BindFault)
-      → IsFault (λ r. (r ≡ TypeMismatch) × (KeepsKinds (kinds_of table) query → ⊥)) fault
-      → IsFault (IsSelectRefusal table select) fault
-  IsSelectRefusal-kinds (faults.Refused r) is =
-      subst (IsSelectRefusal table select) (sym is.0) (
-        known,
-        λ other are.
-            is.1 (subst (KeepsKinds (kinds_of table)) (same_Some other query (sym are.made ∙ made)) are.kept),
-      )
-  IsSelectRefusal-kinds faults.NoMemory is = tt
+    (made : query_of table.columns select ≡ Some query) (kept : KeepsKinds (kinds_of table) query)
+    (r : Result Query BindFault) where
+  -- something besides the groups is given
+  pub select-groups : IfErr r (IsFault (λ x. (x ≡ NotAnAggregate) × (KeepsGroups query → ⊥)))
+      → IfErr r (IsFault (First (asked_of table (select_causes select))))
+  select-groups = by r
+    where
+      kinds : KindsAre table select query
+      kinds = record { made = made; kept = kept }
 
-  module _ (kept : KeepsKinds (kinds_of table) query) (r : Result Query BindFault) where
-    -- something besides the groups is given
-    pub IsSelectRefusal-groups : IfErr r (IsFault (λ x. (x ≡ NotAnAggregate) × (KeepsGroups query → ⊥)))
-        → IfErr r (IsFault (IsSelectRefusal table select))
-    IsSelectRefusal-groups = by r
-      where
-        by : (s : Result Query BindFault)
-            → IfErr s (IsFault (λ x. (x ≡ NotAnAggregate) × (KeepsGroups query → ⊥)))
-            → IfErr s (IsFault (IsSelectRefusal table select))
-        by (Ok q) is = tt
-        by (Err (faults.Refused x)) is =
-            subst (IsSelectRefusal table select) (sym is.0)
-            (known, (query, record { made = made; kept = kept }, is.1))
-        by (Err faults.NoMemory) is = tt
-
-    -- the query is what is asked for
-    pub Asks-from : OnOk r (KeepsGroups query) → IfOk r (λ q. q ≡ query) → IfOk r (Asks table select)
-    Asks-from = by r
-      where
-        by : (s : Result Query BindFault) → OnOk s (KeepsGroups query) → IfOk s (λ q. q ≡ query)
-            → IfOk s (Asks table select)
-        by (Ok q) groups is =
-            subst (Asks table select) (sym is)
-            (record { known = known; kinds = record { made = made; kept = kept }; groups = groups })
-        by (Err fault) groups is = tt
+      by : (s : Result Query BindFault) → IfErr s (IsFault (λ x. (x ≡ NotAnAggregate) × (KeepsGroups query → ⊥)))
+          → IfErr s (IsFault (First (asked_of table (select_causes select))))
+      by (Ok q) is = tt
+      by (Err (faults.Refused x)) is =
+          subst (First (asked_of table (select_causes select))) (sym is.0)
+          (inr (
+            unknown-none (column_names table.columns) (column_names_of select) known,
+            inr (
+              when-none TypeMismatch ((q : Query) → KindsAre table select q → ⊥) (λ none. none query kinds),
+              inl (refl, (query, kinds, is.1)),
+            ),
+          ))
+      by (Err faults.NoMemory) is = tt

@@ -1,5 +1,5 @@
 -- What a statement means for a catalog: a bound statement, or its first refusal (docs/GRAMMAR.md, "Binding").
-use Rattle.std.specs.Prelude.{◌≡◌, ℕ, ◌<◌, ◌≤◌, ◌⊎◌, List, length, Option, Some, None}
+use Rattle.std.specs.Prelude.{◌≡◌, ℕ, ◌<◌, ◌≤◌, List, [], ◌∷◌, length, map, take, Option, Some, None}
 use Rattle.std.specs.Prelude.{slice_get, Contains}
 use Rattle.pj_value.specs.declared.value.Value.{Value}
 use Rattle.pj_parse.specs.declared.types.Statement.{Statement}
@@ -12,17 +12,17 @@ use Rattle.pj_expr.specs.Tables.{names, kinds_of}
 use Rattle.pj_expr.specs.Fits.{KeepsKinds, KeepsGroups}
 use Rattle.pj_bind.specs.declared.types.Bound.{Bound}
 use Rattle.pj_bind.specs.declared.types.Bound.TheVariants as bounds
-use Rattle.pj_bind.specs.declared.types.LimitName.TheVariants.{Tokens, Text, Tables, Columns, History}
+use Rattle.pj_bind.specs.declared.types.LimitName.TheVariants.{Tables, Columns}
 use Rattle.pj_bind.specs.declared.types.Refusal.{Refusal}
-use Rattle.pj_bind.specs.declared.types.Refusal.TheVariants.{Syntax, Limit, NotBuilt, UnknownTable}
-use Rattle.pj_bind.specs.declared.types.Refusal.TheVariants.{TableExists, DuplicateColumn}
-use Rattle.pj_bind.specs.declared.types.Refusal.TheVariants.{UnknownIdentifier, TypeMismatch}
-use Rattle.pj_bind.specs.declared.types.Refusal.TheVariants.{NotAnAggregate, NoMemory}
-use Rattle.pj_bind.specs.Names.{Name, first_unknown, NoneRepeats, IsFirstRepeat}
+use Rattle.pj_bind.specs.declared.types.Refusal.TheVariants.{Limit, NotBuilt, UnknownTable, TableExists}
+use Rattle.pj_bind.specs.declared.types.Refusal.TheVariants.{DuplicateColumn, UnknownIdentifier}
+use Rattle.pj_bind.specs.declared.types.Refusal.TheVariants.{TypeMismatch, NotAnAggregate}
+use Rattle.pj_bind.specs.Names.{Name, first_unknown, IsFirstUnknown, NoneRepeats, IsFirstRepeat}
 use Rattle.pj_bind.specs.Filling.{column_names, listed_names, FillColumns, filled_rows}
 use Rattle.pj_bind.specs.Queries.{column_names_of, query_of}
 use Rattle.pj_bind.specs.Tables.{columns_of, table_of}
 use Rattle.pj_bind.specs.Built.{IsBuilt}
+use Rattle.pj_bind.specs.Causes.{Cause, ◌when◌, ◌naming◌, First}
 
 -- how many tables there may be
 abbrev pub table_limit : ℕ
@@ -36,9 +36,10 @@ column_limit = 64
 abbrev pub IsUnknown : List Table → Name → Type 0
 IsUnknown tables name = Contains (names tables) name → ⊥
 
--- the table of this number has this name
+-- the table of this number is the first of this name
 abbrev pub IsTableAt : List Table → Name → ℕ → Table → Type 0
-IsTableAt tables name place table = (slice_get tables place ≡ Some table) × (table.name ≡ name)
+IsTableAt tables name place table =
+    (slice_get tables place ≡ Some table) × (table.name ≡ name) × IsUnknown (take place tables) name
 
 -- ---- CREATE
 
@@ -46,41 +47,26 @@ IsTableAt tables name place table = (slice_get tables place ≡ Some table) × (
 abbrev pub new_names : List TreeColumn → List Name
 new_names columns = column_names (columns_of columns)
 
+-- why a CREATE is refused, in the order of refusals
+abbrev pub create_causes : List Table → Name → List TreeColumn → List Name → List Cause
+create_causes tables name columns key =
+    (TableExists name when Contains (names tables) name)
+    ∷ (Limit Tables when table_limit ≤ length tables)
+    ∷ (Limit Columns when column_limit < length columns)
+    ∷ (DuplicateColumn naming IsFirstRepeat (new_names columns))
+    ∷ (DuplicateColumn naming IsFirstRepeat key)
+    ∷ (UnknownIdentifier naming IsFirstUnknown (new_names columns) key)
+    ∷ []
+
 -- the name is new, and there is room for the table and its columns
 pub record HasRoom (tables : List Table) (name : Name) (columns : List TreeColumn) : Type 0 where
   pub unknown : IsUnknown tables name
   pub tables_left : length tables < table_limit
   pub few_columns : length columns ≤ column_limit
 
--- the name is the first of the columns that repeats an earlier one, or of the key where no column does
-abbrev pub RepeatsFirst : List TreeColumn → List Name → Name → Type 0
-RepeatsFirst columns key name =
-    IsFirstRepeat (new_names columns) name ⊎ (NoneRepeats (new_names columns) × IsFirstRepeat key name)
-
 -- no column and no name of the key repeats an earlier one
 abbrev pub AreOnce : List TreeColumn → List Name → Type 0
 AreOnce columns key = NoneRepeats (new_names columns) × NoneRepeats key
-
--- a CREATE is refused so, and for nothing before it
-abbrev pub IsCreateRefusal : List Table → Name → List TreeColumn → List Name → Refusal → Type 0
-IsCreateRefusal tables name columns key (TableExists other) = (other ≡ name) × Contains (names tables) name
-IsCreateRefusal tables name columns key (Limit Tables) = IsUnknown tables name × (table_limit ≤ length tables)
-IsCreateRefusal tables name columns key (Limit Columns) =
-    IsUnknown tables name × (length tables < table_limit) × (column_limit < length columns)
-IsCreateRefusal tables name columns key (DuplicateColumn other) =
-    HasRoom tables name columns × RepeatsFirst columns key other
-IsCreateRefusal tables name columns key (UnknownIdentifier other) =
-    HasRoom tables name columns × AreOnce columns key
-    × (first_unknown (new_names columns) key ≡ Some other)
-IsCreateRefusal tables name columns key (Limit Tokens) = ⊥
-IsCreateRefusal tables name columns key (Limit Text) = ⊥
-IsCreateRefusal tables name columns key (Limit History) = ⊥
-IsCreateRefusal tables name columns key (Syntax at) = ⊥
-IsCreateRefusal tables name columns key (UnknownTable other) = ⊥
-IsCreateRefusal tables name columns key NotBuilt = ⊥
-IsCreateRefusal tables name columns key TypeMismatch = ⊥
-IsCreateRefusal tables name columns key NotAnAggregate = ⊥
-IsCreateRefusal tables name columns key NoMemory = ⊥
 
 -- nothing refuses a CREATE
 pub record CanBeCreated (tables : List Table) (name : Name) (columns : List TreeColumn) (key : List Name)
@@ -91,54 +77,42 @@ pub record CanBeCreated (tables : List Table) (name : Name) (columns : List Tree
 
 -- ---- INSERT
 
+-- why an INSERT is refused whose table is there
+abbrev pub insert_causes : Option (List Name) → List (List Value) → List (Table → Cause)
+insert_causes listed rows =
+    (λ table. DuplicateColumn naming IsFirstRepeat (listed_names listed))
+    ∷ (λ table. UnknownIdentifier naming IsFirstUnknown (column_names table.columns) (listed_names listed))
+    ∷ (λ table. TypeMismatch when (FillColumns table.columns listed rows → ⊥))
+    ∷ []
+
 -- each name of an INSERT's list is a column, and none repeats an earlier one
 abbrev pub AreColumns : Table → Option (List Name) → Type 0
 AreColumns table listed =
     NoneRepeats (listed_names listed)
     × (first_unknown (column_names table.columns) (listed_names listed) ≡ None)
 
--- an INSERT into the table is refused so, and for nothing before it
-abbrev pub IsInsertRefusal : Table → Option (List Name) → List (List Value) → Refusal → Type 0
-IsInsertRefusal table listed rows (DuplicateColumn name) = IsFirstRepeat (listed_names listed) name
-IsInsertRefusal table listed rows (UnknownIdentifier name) =
-    NoneRepeats (listed_names listed)
-    × (first_unknown (column_names table.columns) (listed_names listed) ≡ Some name)
-IsInsertRefusal table listed rows TypeMismatch =
-    AreColumns table listed × (FillColumns table.columns listed rows → ⊥)
-IsInsertRefusal table listed rows (Syntax at) = ⊥
-IsInsertRefusal table listed rows (Limit limit) = ⊥
-IsInsertRefusal table listed rows (UnknownTable name) = ⊥
-IsInsertRefusal table listed rows (TableExists name) = ⊥
-IsInsertRefusal table listed rows NotBuilt = ⊥
-IsInsertRefusal table listed rows NotAnAggregate = ⊥
-IsInsertRefusal table listed rows NoMemory = ⊥
-
 -- ---- SELECT
-
--- each name of a SELECT is a column, or an alias where aliases count
-abbrev pub AreKnown : Table → TreeSelect → Type 0
-AreKnown table select = first_unknown (column_names table.columns) (column_names_of select) ≡ None
 
 -- the query of a SELECT over the table, which keeps the kinds of its columns
 pub record KindsAre (table : Table) (select : TreeSelect) (query : Query) : Type 0 where
   pub made : query_of table.columns select ≡ Some query
   pub kept : KeepsKinds (kinds_of table) query
 
--- a SELECT from the table is refused so, and for nothing before it
-abbrev pub IsSelectRefusal : Table → TreeSelect → Refusal → Type 0
-IsSelectRefusal table select (UnknownIdentifier name) =
-    first_unknown (column_names table.columns) (column_names_of select) ≡ Some name
-IsSelectRefusal table select TypeMismatch =
-    AreKnown table select × ((query : Query) → KindsAre table select query → ⊥)
-IsSelectRefusal table select NotAnAggregate =
-    AreKnown table select × ((query : Query) × KindsAre table select query × (KeepsGroups query → ⊥))
-IsSelectRefusal table select (Syntax at) = ⊥
-IsSelectRefusal table select (Limit limit) = ⊥
-IsSelectRefusal table select (UnknownTable name) = ⊥
-IsSelectRefusal table select (TableExists name) = ⊥
-IsSelectRefusal table select (DuplicateColumn name) = ⊥
-IsSelectRefusal table select NotBuilt = ⊥
-IsSelectRefusal table select NoMemory = ⊥
+-- the query keeps the kinds of its columns, and gives something besides its groups
+abbrev pub BreaksGroups : Table → TreeSelect → Type 0
+BreaksGroups table select = (query : Query) × KindsAre table select query × (KeepsGroups query → ⊥)
+
+-- why a SELECT is refused whose table is there
+abbrev pub select_causes : TreeSelect → List (Table → Cause)
+select_causes select =
+    (λ table. UnknownIdentifier naming IsFirstUnknown (column_names table.columns) (column_names_of select))
+    ∷ (λ table. TypeMismatch when ((query : Query) → KindsAre table select query → ⊥))
+    ∷ (λ table. NotAnAggregate when BreaksGroups table select)
+    ∷ []
+
+-- each name of a SELECT is a column, or an alias where aliases count
+abbrev pub AreKnown : Table → TreeSelect → Type 0
+AreKnown table select = first_unknown (column_names table.columns) (column_names_of select) ≡ None
 
 -- the query that a SELECT from the table asks for
 pub record Asks (table : Table) (select : TreeSelect) (query : Query) : Type 0 where
@@ -146,40 +120,43 @@ pub record Asks (table : Table) (select : TreeSelect) (query : Query) : Type 0 w
   pub kinds : KindsAre table select query
   pub groups : KeepsGroups query
 
--- ---- statements of a form that is built
+-- ---- refusals
 
--- no table has the name, and the refusal says so
-abbrev pub TellsUnknown : List Table → Name → Refusal → Type 0
-TellsUnknown tables name refusal = (refusal ≡ UnknownTable name) × IsUnknown tables name
+-- the causes, asked of a table
+abbrev pub asked_of : Table → List (Table → Cause) → List Cause
+asked_of table causes = map (λ cause. cause table) causes
 
--- a table of the name refuses the statement
-abbrev pub RefusedAt : List Table → Name → (Table → Type 0) → Type 0
-RefusedAt tables name refuses =
-    (place : ℕ) × (table : Table) × IsTableAt tables name place table × refuses table
+-- the cause, asked of the table of this name
+abbrev pub At : List Table → Name → (Table → Cause) → Cause
+At tables name cause refusal =
+    (place : ℕ) × (table : Table) × IsTableAt tables name place table × cause table refusal
+
+-- the table of this name must be there, and then these causes are asked of it
+abbrev pub causes_at : List Table → Name → List (Table → Cause) → List Cause
+causes_at tables name causes =
+    (UnknownTable name when IsUnknown tables name) ∷ map (λ cause. At tables name cause) causes
+
+-- why a statement of a built form is refused; the other forms have no causes of their own
+abbrev pub form_causes : List Table → Statement → List Cause
+form_causes tables (statements.Create name columns projections key settings) =
+    create_causes tables name columns key
+form_causes tables (statements.Insert name listed rows) = causes_at tables name (insert_causes listed rows)
+form_causes tables (statements.Select select) = causes_at tables select.table (select_causes select)
+form_causes tables statement = []
+
+-- why a statement is refused: a form that isn't built comes before all
+abbrev pub causes : List Table → Statement → List Cause
+causes tables statement = (NotBuilt when (IsBuilt statement → ⊥)) ∷ form_causes tables statement
 
 -- the statement, of a built form, is refused so for these tables
 abbrev pub IsRefusedBy : List Table → Statement → Refusal → Type 0
-IsRefusedBy tables (statements.Create name columns projections key settings) refusal =
-    IsCreateRefusal tables name columns key refusal
-IsRefusedBy tables (statements.Insert name columns rows) refusal =
-    TellsUnknown tables name refusal
-    ⊎ RefusedAt tables name (λ table. IsInsertRefusal table columns rows refusal)
-IsRefusedBy tables (statements.Select select) refusal =
-    TellsUnknown tables select.table refusal
-    ⊎ RefusedAt tables select.table (λ table. IsSelectRefusal table select refusal)
-IsRefusedBy tables (statements.Explain select) refusal = ⊥
-IsRefusedBy tables (statements.Delete name filter sets) refusal = ⊥
-IsRefusedBy tables (statements.Alter name action sets) refusal = ⊥
-IsRefusedBy tables (statements.Optimize name) refusal = ⊥
-IsRefusedBy tables (statements.Set sets) refusal = ⊥
-IsRefusedBy tables (statements.Merge name) refusal = ⊥
-IsRefusedBy tables (statements.Mutate name) refusal = ⊥
+IsRefusedBy tables statement refusal = First (form_causes tables statement) refusal
 
--- the statement is refused so for these tables; a form that isn't built comes before all
+-- the statement is refused so for these tables
 abbrev pub IsRefusal : List Table → Statement → Refusal → Type 0
-IsRefusal tables statement refusal =
-    ((refusal ≡ NotBuilt) × (IsBuilt statement → ⊥))
-    ⊎ (IsBuilt statement × IsRefusedBy tables statement refusal)
+IsRefusal tables statement refusal = First (causes tables statement) refusal
+
+-- ---- what is bound
 
 -- the statement, of a built form, binds to this for these tables
 abbrev pub IsBound : List Table → Statement → Bound → Type 0

@@ -21,6 +21,6 @@ IsBindFault tables statement fault = IsFault (IsRefusal tables statement) fault
 abbrev pub IsBuiltFault : List Table → Statement → BindFault → Type 0
 IsBuiltFault tables statement fault = IsFault (IsRefusedBy tables statement) fault
 
--- a table of the name has this number
+-- the first table of the name has this number
 abbrev pub IsAt : List Table → Name → ℕ → Type 0
 IsAt tables name place = (table : Table) × IsTableAt tables name place table

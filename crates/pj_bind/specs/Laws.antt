@@ -1,11 +1,13 @@
 -- Laws over the definitions of this crate, each shown by a function of its own (src/laws.rt).
-use Rattle.std.specs.Prelude.{◌≡◌, ℕ, List, Some, slice_get}
+use Rattle.std.specs.Prelude.{◌≡◌, ◌⊎◌, ℕ, List, Some, slice_get}
 use Rattle.pj_parse.specs.declared.types.Statement.{Statement}
 use Rattle.pj_parse.specs.declared.types.Statement.TheVariants as statements
 use Rattle.pj_parse.specs.declared.types.TreeSelect.{TreeSelect}
+use Rattle.pj_parse.specs.Lexemes.{Lexeme}
+use Rattle.pj_parse.specs.GrammarStatements.{Line}
 use Rattle.pj_expr.specs.declared.query.Query.{Query}
 use Rattle.pj_expr.specs.declared.table.Table.{Table}
-use Rattle.pj_expr.specs.Tables.{kinds_of}
+use Rattle.pj_expr.specs.Tables.{kinds_of, TableFits}
 use Rattle.pj_expr.specs.Fits.{FitsQuery}
 use Rattle.pj_bind.specs.declared.types.Bound.{Bound}
 use Rattle.pj_bind.specs.declared.types.Bound.TheVariants as bounds
@@ -19,23 +21,36 @@ HasUniqueNames tables =
     (i j : ℕ) (a b : Table) → slice_get tables i ≡ Some a → slice_get tables j ≡ Some b → a.name ≡ b.name
     → i ≡ j
 
--- where no two tables have one name, a statement is refused in one way at most
+-- where no two tables have one name, each is the first of its name
+abbrev pub EachIsFirst : Type 0
+EachIsFirst =
+    (tables : List Table) (place : ℕ) (table : Table) → HasUniqueNames tables
+    → slice_get tables place ≡ Some table → IsTableAt tables table.name place table
+
+-- a statement is refused in one way at most
 abbrev pub OneRefusal : Type 0
 OneRefusal =
-    (tables : List Table) (statement : Statement) (a b : Refusal) → HasUniqueNames tables
-    → IsRefusal tables statement a → IsRefusal tables statement b → a ≡ b
+    (tables : List Table) (statement : Statement) (a b : Refusal) → IsRefusal tables statement a
+    → IsRefusal tables statement b → a ≡ b
 
--- where no two tables have one name, a statement of a built form that binds isn't refused
-abbrev pub BoundOrRefused : Type 0
-BoundOrRefused =
-    (tables : List Table) (statement : Statement) (bound : Bound) (refusal : Refusal) → HasUniqueNames tables
-    → IsBuilt statement → IsBound tables statement bound → IsRefusal tables statement refusal → ⊥
-
--- where no two tables have one name, a statement binds in one way at most
+-- a statement binds in one way at most
 abbrev pub OneBound : Type 0
 OneBound =
-    (tables : List Table) (statement : Statement) (a b : Bound) → HasUniqueNames tables
-    → IsBound tables statement a → IsBound tables statement b → a ≡ b
+    (tables : List Table) (statement : Statement) (a b : Bound) → IsBound tables statement a
+    → IsBound tables statement b → a ≡ b
+
+-- a statement of a built form that binds isn't refused
+abbrev pub NoBoundIsRefused : Type 0
+NoBoundIsRefused =
+    (tables : List Table) (statement : Statement) (bound : Bound) (refusal : Refusal) → IsBuilt statement
+    → IsBound tables statement bound → IsRefusal tables statement refusal → ⊥
+
+-- each statement has a built form and binds, or is refused
+abbrev pub BoundOrRefused : Type 0
+BoundOrRefused =
+    (tables : List Table) (statement : Statement)
+    → ((bound : Bound) × IsBuilt statement × IsBound tables statement bound)
+    ⊎ ((refusal : Refusal) × IsRefusal tables statement refusal)
 
 -- the query fits the table of this name that has this number
 abbrev pub FitsTableAt : List Table → List ℕ → ℕ → Query → Type 0
@@ -48,3 +63,9 @@ BoundQueriesFit =
     (tables : List Table) (select : TreeSelect) (place : ℕ) (query : Query)
     → IsBound tables (statements.Select select) (bounds.Select place query)
     → FitsTableAt tables select.table place query
+
+-- the table of a CREATE that is a line of the grammar and binds may be made
+abbrev pub BoundTablesFit : Type 0
+BoundTablesFit =
+    (ts : List Lexeme) (statement : Statement) (tables : List Table) (table : Table) → Line ts statement
+    → IsBound tables statement (bounds.Create table) → TableFits table

@@ -5,6 +5,7 @@ pub mod Filling
 pub mod Sources
 pub mod Tables
 pub mod Built
+pub mod Causes
 pub mod Binding
 pub mod Faults
 pub mod Laws

@@ -33,6 +33,10 @@ is_among names name = list_any (λ other. bytes_eq other name) names
 abbrev pub first_unknown : List Name → List Name → Option Name
 first_unknown known names = find (λ name. not (is_among known name)) names
 
+-- the name is the first of the names that isn't one of the known
+abbrev pub IsFirstUnknown : List Name → List Name → Name → Type 0
+IsFirstUnknown known names name = first_unknown known names ≡ Some name
+
 -- no name repeats an earlier one
 abbrev pub NoneRepeats : List Name → Type 0
 NoneRepeats names =

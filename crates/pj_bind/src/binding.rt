@@ -5,8 +5,9 @@ ghost use Rattle.pj_expr.specs.Fits.{KeepsGroups, KeepsKinds};
 ghost use Rattle.pj_expr.specs.Tables.{kinds_of};
 ghost use Rattle.pj_bind.specs.Filling.{listed_names, FillColumns, filled_rows};
 ghost use Rattle.pj_bind.specs.Built.{IsBuilt};
-ghost use Rattle.pj_bind.specs.Binding.{IsBound, IsUnknown, IsCreateRefusal, CanBeCreated};
-ghost use Rattle.pj_bind.specs.Binding.{AreColumns, IsInsertRefusal, IsSelectRefusal, Asks};
+ghost use Rattle.pj_bind.specs.Causes.{First};
+ghost use Rattle.pj_bind.specs.Binding.{IsBound, IsUnknown, CanBeCreated, AreColumns, Asks};
+ghost use Rattle.pj_bind.specs.Binding.{create_causes, insert_causes, select_causes, asked_of};
 ghost use Rattle.pj_bind.specs.Faults.{IsFault, IsBindFault, IsBuiltFault, IsAt};
 ghost use Rattle.pj_bind.specs.declared.binding.BindFault.TheVariants as faults;
 
@@ -62,8 +63,9 @@ impl<T: Drop> From<AllocFailed<T>> for BindFault {
     }
 }
 
-/// The bound statement for these tables, or its first refusal. It takes time linear in the statement, times
-/// the columns of its table (n log n in an INSERT's list of n names), and memory for what is bound.
+/// The bound statement for these tables, or its first refusal: NotBuilt for a form that isn't built, whatever
+/// the tables are. It takes time linear in the statement, times the columns of its table (n log n in an
+/// INSERT's list of n names), and memory for what is bound.
 pub fn bind(alloc: Global, statement: &Statement, catalog: &Catalog) -> Result<Bound, BindFault>
     ensures built { OnOk result (IsBuilt statement.now) }
     ensures bound { IfOk result (IsBound catalog.now statement.now) }
@@ -115,7 +117,7 @@ fn check_create(
 ) -> Result<(), BindFault>
     ensures can { OnOk result (CanBeCreated tables.now name.now columns.now key.now) }
     ensures refused { IfErr result
-        (IsFault (IsCreateRefusal tables.now name.now columns.now key.now)) }
+        (IsFault (First (create_causes tables.now name.now columns.now key.now))) }
 {
     if place_of(tables, name).is_some() {
         let name = name.duplicate(alloc)?;
@@ -206,7 +208,7 @@ fn insert_into(
       kinds = kinds_of table.now;
       rows = filled_rows table.now.columns listed.now rows.now;
     }) }
-    ensures refused { IfErr result (IsFault (IsInsertRefusal table.now listed.now rows.now)) }
+    ensures refused { IfErr result (IsFault (First (asked_of table.now (insert_causes listed.now rows.now)))) }
 {
     let names = names_listed(listed);
     if let Some(repeated) = first_repeat(alloc, names)? {
@@ -250,7 +252,7 @@ fn select_from(alloc: Global, tables: &[Table], select: &TreeSelect) -> Result<B
 /// The query that a SELECT from the table asks for, or why it is refused.
 fn query_over(alloc: Global, table: &Table, select: &TreeSelect) -> Result<Query, BindFault>
     ensures asks { IfOk result (Asks table.now select.now) }
-    ensures refused { IfErr result (IsFault (IsSelectRefusal table.now select.now)) }
+    ensures refused { IfErr result (IsFault (First (asked_of table.now (select_causes select.now)))) }
 {
     let columns = table.columns.as_slice();
     if let Some(unknown) = unknown_in_select(columns, select) {

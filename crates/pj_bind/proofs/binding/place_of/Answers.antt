@@ -16,6 +16,7 @@ returns-then-eq c =
             (length c.args.tables.now) c.tables.place c.index-tables-place.result refl
             (omega arith) c.index-tables-place.is,
         same.0 c.if-eq.true,
+        c.tables.invariant,
       ),
     )
 

@@ -9,7 +9,7 @@ use Rattle.pj_bind.specs.Names.{first_unknown}
 use Rattle.pj_bind.specs.Filling.{column_names}
 use Rattle.pj_bind.specs.Queries.{column_names_of, query_of}
 use Rattle.pj_bind.specs.Binding.{AreKnown}
-use Rattle.pj_bind.proofs.FaultLemmas.{IsSelectRefusal-groups}
+use Rattle.pj_bind.proofs.FaultLemmas.{select-groups}
 use Rattle.pj_bind.proofs.binding.query_over.Goals as goal
 
 pub returns-clause-refused : goal.returns-clause-refused
@@ -26,4 +26,4 @@ returns-clause-refused c =
     ∙ sym c.in_ok-query.ensures ∙ c.in-Some-2.is ∙ ap Some (sym c.in_ok-query-2.ensures.same) in
     let kept : KeepsKinds (kinds_of table) query =
     subst (KeepsKinds (kinds_of table)) (sym c.in_ok-query-2.ensures.same) c.in_ok-query-2.ensures.kept in
-    IsSelectRefusal-groups table select query known made kept c.grouped.result c.grouped.ensures.refused
+    select-groups table select query known made kept c.grouped.result c.grouped.ensures.refused

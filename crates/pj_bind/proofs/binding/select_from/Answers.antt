@@ -1,10 +1,12 @@
-use Rattle.std.proofs.Common.{◌<◌, length, refl, inr, arith}
+use Rattle.std.proofs.Common.{◌<◌, length, refl, arith}
 use Rattle.std.proofs.lemmas.Option.{slice_get_within}
 use Rattle.std.proofs.lemmas.Result.{err_from_is_err_and}
 use Rattle.pj_expr.specs.declared.table.Table.{Table}
 use Rattle.pj_parse.specs.declared.types.Statement.TheVariants as statements
 use Rattle.pj_parse.specs.declared.types.TreeSelect.{TreeSelect}
-use Rattle.pj_bind.specs.Binding.{IsSelectRefusal, IsRefusedBy}
+use Rattle.pj_bind.specs.Causes.{First}
+use Rattle.pj_bind.specs.Binding.{select_causes, asked_of, IsRefusedBy}
+use Rattle.pj_bind.proofs.AtLemmas.{First-causes_at}
 use Rattle.pj_bind.proofs.FaultLemmas.{IsFault-weaker}
 use Rattle.pj_bind.proofs.TableLemmas.{IsTableAt-read}
 use Rattle.pj_bind.proofs.binding.select_from.Goals as goal
@@ -16,15 +18,11 @@ returns-in_err-query-clause-refused c =
     let p = err_from_is_err_and c.from_residual.result c.from_residual.ensures.1 in
     let h = c.in_err-query.ensures.refused in
     rw (p.1, p.2)
-    (IsFault-weaker (IsSelectRefusal table select)
+    (IsFault-weaker (First (asked_of table (select_causes select)))
     (IsRefusedBy c.args.tables.now (statements.Select select)) _
-    (λ r against. inr (
-      c.in-Some.place,
-      table,
-      IsTableAt-read c.args.tables.now select.table c.in-Some.place table c.in-Some.ensures
-          c.index-tables-place.is,
-      against,
-    )) h)
+    (First-causes_at c.args.tables.now select.table c.in-Some.place table
+    (IsTableAt-read c.args.tables.now select.table c.in-Some.place table c.in-Some.ensures
+    c.index-tables-place.is) (select_causes select)) h)
 
 pub overflow_cast-result : goal.overflow_cast-result
 overflow_cast-result c =
