@@ -9,20 +9,17 @@ use Rattle.pj_parse.specs.GrammarStatements.{Line}
 use Rattle.pj_parse.specs.Statements.{HasTooMany, place_of, IsSyntaxError}
 use Rattle.pj_expr.specs.declared.table.Table.{Table}
 use Rattle.pj_bind.specs.declared.types.Bound.{Bound}
-use Rattle.pj_bind.specs.declared.types.LimitName.TheVariants.{Tokens, Text, Tables, Columns, History}
+use Rattle.pj_bind.specs.declared.types.LimitName.TheVariants.{Tokens, Text}
 use Rattle.pj_bind.specs.declared.types.Refusal.{Refusal}
-use Rattle.pj_bind.specs.declared.types.Refusal.TheVariants.{Syntax, Limit, UnknownTable, TableExists}
-use Rattle.pj_bind.specs.declared.types.Refusal.TheVariants.{DuplicateColumn, UnknownIdentifier, TypeMismatch}
-use Rattle.pj_bind.specs.declared.types.Refusal.TheVariants.{NotAnAggregate, NotBuilt, NoMemory}
-use Rattle.pj_bind.specs.Binding.{IsRefusal}
-use Rattle.pj_bind.specs.Laws.{HasUniqueNames}
-use Rattle.pj_bind.proofs.BindLaws.{one_refusal, bound_or_refused}
+use Rattle.pj_bind.specs.declared.types.Refusal.TheVariants.{Syntax, Limit}
+use Rattle.pj_bind.specs.Binding.{IsBound, IsRefusal}
+use Rattle.pj_bind.proofs.BindLaws.{one_refusal, one_bound, no_bound_is_refused}
 use Rattle.pj_legal.specs.Binding.{HasLongText, BodyReads, IsOffGrammar, HasManyTokens, HasLongLine}
 use Rattle.pj_legal.specs.Binding.{IsUnreadable, BodyBinds, BodyIsRefused}
 use Rattle.pj_lex.proofs.BodyLaws.{one_list, no_tokens_with_a_break, one_break}
 use Rattle.pj_parse.proofs.WholeLine.{one_statement, one_place}
-use Rattle.pj_legal.specs.Laws.{HasOneMeaning, OneBodyReading}
-use Rattle.pj_legal.specs.Laws.{BodyBoundOrRefused, OneBodyRefusal}
+use Rattle.pj_legal.specs.Laws.{HasOneMeaning, OneBodyReading, NoBoundBodyIsRefused, OneBodyBound}
+use Rattle.pj_legal.specs.Laws.{OneBodyRefusal}
 
 module _ (laws : HasOneMeaning) (body : List ℕ) where
   -- what holds of a body's tokens holds of each list of its tokens
@@ -66,17 +63,7 @@ module _ (laws : HasOneMeaning) (body : List ℕ) where
   BodyReads-readable statement (Limit Tokens) r many = not_few r.tokens many r.are r.few
   BodyReads-readable statement (Limit Text) r long =
       r.short (moved HasLongText long.tokens r.tokens long.are r.are long.long)
-  BodyReads-readable statement (Limit Tables) r is = is
-  BodyReads-readable statement (Limit Columns) r is = is
-  BodyReads-readable statement (Limit History) r is = is
-  BodyReads-readable statement (UnknownTable name) r is = is
-  BodyReads-readable statement (TableExists name) r is = is
-  BodyReads-readable statement (DuplicateColumn name) r is = is
-  BodyReads-readable statement (UnknownIdentifier name) r is = is
-  BodyReads-readable statement TypeMismatch r is = is
-  BodyReads-readable statement NotAnAggregate r is = is
-  BodyReads-readable statement NotBuilt r is = is
-  BodyReads-readable statement NoMemory r is = is
+  BodyReads-readable statement refusal r is = is
 
   -- two places of syntax errors are one
   one_syntax : (a b : ℕ) → IsUnreadable body (Syntax a) → IsUnreadable body (Syntax b) → a ≡ b
@@ -106,17 +93,9 @@ module _ (laws : HasOneMeaning) (body : List ℕ) where
   IsUnreadable-one (Limit Text) (Syntax at) r s = absurd (syntax_short at s r)
   IsUnreadable-one (Limit Text) (Limit Tokens) r s = absurd (not_few r.tokens s r.are r.few)
   IsUnreadable-one (Limit Text) (Limit Text) r s = refl
-  IsUnreadable-one (Limit Tables) b r s = absurd r
-  IsUnreadable-one (Limit Columns) b r s = absurd r
-  IsUnreadable-one (Limit History) b r s = absurd r
-  IsUnreadable-one (UnknownTable name) b r s = absurd r
-  IsUnreadable-one (TableExists name) b r s = absurd r
-  IsUnreadable-one (DuplicateColumn name) b r s = absurd r
-  IsUnreadable-one (UnknownIdentifier name) b r s = absurd r
-  IsUnreadable-one TypeMismatch b r s = absurd r
-  IsUnreadable-one NotAnAggregate b r s = absurd r
-  IsUnreadable-one NotBuilt b r s = absurd r
-  IsUnreadable-one NoMemory b r s = absurd r
+  IsUnreadable-one a (Syntax at) r s = absurd r
+  IsUnreadable-one a (Limit Tokens) r s = absurd r
+  IsUnreadable-one a (Limit Text) r s = absurd r
   IsUnreadable-one a b r s = absurd s
 
   -- a refusal of one of the body's statements is one of the other's
@@ -126,33 +105,44 @@ module _ (laws : HasOneMeaning) (body : List ℕ) where
       subst (λ (x : Statement). IsRefusal tables x refusal) (BodyReads-one a b r s) is
 
   -- a body that binds isn't refused
-  pub BodyIsRefused-bound : (tables : List Table) (bound : Bound) (refusal : Refusal) → HasUniqueNames tables
+  pub BodyIsRefused-bound : (tables : List Table) (bound : Bound) (refusal : Refusal)
       → BodyBinds tables body bound → BodyIsRefused tables body refusal → ⊥
-  BodyIsRefused-bound tables bound refusal unique (statement, reads, built, binds) (inl unreadable) =
+  BodyIsRefused-bound tables bound refusal (statement, reads, built, binds) (inl unreadable) =
       BodyReads-readable statement refusal reads unreadable
-  BodyIsRefused-bound tables bound refusal unique (statement, reads, built, binds) (inr (other, too, is)) =
-      bound_or_refused tables statement bound refusal unique built binds
+  BodyIsRefused-bound tables bound refusal (statement, reads, built, binds) (inr (other, too, is)) =
+      no_bound_is_refused tables statement bound refusal built binds
       (IsRefusal-read tables other statement refusal too reads is)
 
+  -- a body binds in one way
+  pub BodyBinds-one : (tables : List Table) (a b : Bound) → BodyBinds tables body a → BodyBinds tables body b
+      → a ≡ b
+  BodyBinds-one tables a b (statement, reads, built, binds) (other, too, also, again) =
+      one_bound tables statement a b binds
+      (subst (λ (x : Statement). IsBound tables x b) (BodyReads-one other statement too reads) again)
+
   -- a body is refused in one way
-  pub BodyIsRefused-one : (tables : List Table) (a b : Refusal) → HasUniqueNames tables
+  pub BodyIsRefused-one : (tables : List Table) (a b : Refusal)
       → BodyIsRefused tables body a → BodyIsRefused tables body b → a ≡ b
-  BodyIsRefused-one tables a b unique (inl r) (inl s) = IsUnreadable-one a b r s
-  BodyIsRefused-one tables a b unique (inl r) (inr (statement, reads, refused)) =
+  BodyIsRefused-one tables a b (inl r) (inl s) = IsUnreadable-one a b r s
+  BodyIsRefused-one tables a b (inl r) (inr (statement, reads, refused)) =
       absurd (BodyReads-readable statement a reads r)
-  BodyIsRefused-one tables a b unique (inr (statement, reads, refused)) (inl s) =
+  BodyIsRefused-one tables a b (inr (statement, reads, refused)) (inl s) =
       absurd (BodyReads-readable statement b reads s)
-  BodyIsRefused-one tables a b unique (inr (statement, reads, refused)) (inr (other, too, again)) =
-      one_refusal tables statement a b unique refused
+  BodyIsRefused-one tables a b (inr (statement, reads, refused)) (inr (other, too, again)) =
+      one_refusal tables statement a b refused
       (IsRefusal-read tables other statement b too reads again)
 
 -- so a body is read as one statement at most
 pub OneBodyReading-from : HasOneMeaning → OneBodyReading
 OneBodyReading-from laws = λ body. BodyReads-one laws body
 
--- is bound or refused
-pub BodyBoundOrRefused-from : HasOneMeaning → BodyBoundOrRefused
-BodyBoundOrRefused-from laws = λ tables body. BodyIsRefused-bound laws body tables
+-- isn't both bound and refused
+pub NoBoundBodyIsRefused-from : HasOneMeaning → NoBoundBodyIsRefused
+NoBoundBodyIsRefused-from laws = λ tables body. BodyIsRefused-bound laws body tables
+
+-- binds in one way
+pub OneBodyBound-from : HasOneMeaning → OneBodyBound
+OneBodyBound-from laws = λ tables body. BodyBinds-one laws body tables
 
 -- and is refused in one way
 pub OneBodyRefusal-from : HasOneMeaning → OneBodyRefusal

@@ -59,7 +59,7 @@ HasUniqueNames-push tables table unique new i j a b first other same =
 -- a move that fits leaves unique names
 HasUniqueNames-on : (place : List Entry) (what : What) → HasUniqueNames (catalog place) → WhatFits place what
     → HasUniqueNames (catalog_on (catalog place) what)
-HasUniqueNames-on place (Created table) unique fits = HasUniqueNames-push (catalog place) table unique fits
+HasUniqueNames-on place (Created table) unique fits = HasUniqueNames-push (catalog place) table unique fits.0
 HasUniqueNames-on place Refused unique fits = unique
 HasUniqueNames-on place (Looked table) unique fits = unique
 HasUniqueNames-on place (Begun table) unique fits = unique

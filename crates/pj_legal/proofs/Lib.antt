@@ -1,9 +1,13 @@
+mod BodyCauses
 mod BodyLaws
+mod ExampleLemmas
+mod FormLemmas
 mod Histories
 mod InsertBodies
-mod LegalLemmas
+mod JoiningLemmas
 mod LegalNames
 mod Lines
+mod MoveLemmas
 mod PlainReplies
 mod Refusals
 mod RunLemmas
@@ -13,4 +17,5 @@ mod StatementNames
 mod StatementWords
 mod TextLaws
 mod TextSizes
+mod ToldLemmas
 mod TreeWords

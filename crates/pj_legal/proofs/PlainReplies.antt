@@ -1,13 +1,18 @@
 -- A name that a reply gives is a word of the statement's body, so it has no line feed.
-use Rattle.std.proofs.Common.{◌≡◌, ℕ, zero, suc, true, List, [], ◌∷◌, sym, refl, subst, inl, inr, arith}
-use Rattle.std.specs.List.{AllByRecursion, AllZip}
-use Rattle.std.proofs.lemmas.Bool.{false≢true}
+use Rattle.std.proofs.Common.{◌≡◌, ℕ, ◌<◌, zero, suc, Bool, true, false, cond, List, [], ◌∷◌, length}
+use Rattle.std.proofs.Common.{Option, None, Some, sym, refl, ◌∙◌, subst, inl, inr, arith}
+use Rattle.std.specs.Prelude.{◌==◌}
+use Rattle.std.specs.List.{AllByRecursion}
+use Rattle.std.proofs.lemmas.Bool.{eq-eqb, false≢true}
+use Rattle.std.proofs.lemmas.Option.{none-some, same_Some}
 use Rattle.pj_lex.specs.Bytes.{begins_word, is_word_byte, AllAre}
 use Rattle.pj_lex.specs.Tokens.{IsWord}
 use Rattle.pj_parse.specs.declared.types.Script.{Script}
 use Rattle.pj_journal.specs.declared.entry.Entry.{Entry}
 use Rattle.pj_expr.specs.declared.table.Table.{Table}
+use Rattle.pj_journal.specs.declared.entry.Actor.TheVariants.{Session}
 use Rattle.pj_journal.specs.History.{catalog}
+use Rattle.pj_journal.specs.Moves.{Move, moves_by, for_line}
 use Rattle.pj_legal.specs.declared.reply.Reply.{Reply}
 use Rattle.pj_bind.specs.declared.types.Bound.{Bound}
 use Rattle.pj_bind.specs.declared.types.Bound.TheVariants as bounds
@@ -15,7 +20,10 @@ use Rattle.pj_bind.specs.declared.types.Refusal.{Refusal}
 use Rattle.pj_bind.specs.declared.types.Refusal.TheVariants as refusals
 use Rattle.pj_bind.specs.Names.{Name}
 use Rattle.pj_legal.specs.Binding.{IsUnreadable, BodyIsRefused}
-use Rattle.pj_legal.specs.Legal.{Said, BoundForm, Form, added_by, place_of, statements, IsLegal}
+use Rattle.pj_legal.specs.Statements.{Said, statements, said_by, Shown, shown_to}
+use Rattle.pj_legal.specs.Forms.{Course, BoundForm, Form}
+use Rattle.pj_legal.specs.Shares.{Takes, Went}
+use Rattle.pj_legal.specs.Legal.{IsLegal}
 use Rattle.pj_legal.specs.Laws.{IsOneLine, IsPlainRefusal, IsPlain}
 use Rattle.pj_legal.proofs.Refusals.{Names, IsRefusal-names}
 use Rattle.pj_legal.proofs.TreeWords.{AreWords}
@@ -80,35 +88,79 @@ IsPlainRefusal-body tables body refusal (inr (statement, reads, is)) =
     (AreOneLines (names_of statement) (IsOfWords-body body statement reads)) is)
 
 -- a bound statement's reply gives no name
-IsPlain-bound : (place : List Entry) (said : Said) (bound : Bound) (added : List Entry) (reply : Reply)
-    → BoundForm place said bound added reply → IsPlain reply
-IsPlain-bound place said (bounds.Create table) added reply form = subst IsPlain (sym form.1) tt
-IsPlain-bound place said (bounds.Insert table rows) added reply form = subst IsPlain (sym form.2) tt
-IsPlain-bound place said (bounds.Select table query) added reply form = subst IsPlain (sym form.3) tt
+IsPlain-bound : (place : List Entry) (said : Said) (bound : Bound) (course : Course) (reply : Reply)
+    → course.reply ≡ Some reply → BoundForm place said bound course → IsPlain reply
+IsPlain-bound place said (bounds.Create table) course reply is form =
+    subst IsPlain (same_Some _ _ (sym form.1 ∙ is)) tt
+IsPlain-bound place said (bounds.Insert table rows) course reply is form =
+    subst IsPlain (same_Some _ _ (sym form.3 ∙ is)) tt
+IsPlain-bound place said (bounds.Select table query) course reply is form =
+    subst IsPlain (same_Some _ _ (sym form.3 ∙ is)) tt
 
 -- no form's reply gives a name with a line feed
-IsPlain-form : (limit : ℕ) (place : List Entry) (said : Said) (added : List Entry) (reply : Reply)
-    → Form limit place said added reply → IsPlain reply
-IsPlain-form limit place said added reply (inl refused) =
-    subst IsPlain (sym refused.3) (IsPlainRefusal-body (catalog place) said.body refused.0 refused.1)
-IsPlain-form limit place said added reply (inr (inl bound)) =
-    IsPlain-bound place said bound.0 added reply bound.2
-IsPlain-form limit place said added reply (inr (inr (inl early))) = subst IsPlain (sym early.0) tt
-IsPlain-form limit place said added reply (inr (inr (inr early))) = subst IsPlain (sym early.0) tt
+IsPlain-form : (said : Said) (course : Course) (reply : Reply) → course.reply ≡ Some reply → Form said course
+    → IsPlain reply
+IsPlain-form said course reply is (inl refused) =
+    subst IsPlain (same_Some _ _ (sym refused.reply ∙ is))
+    (IsPlainRefusal-body (catalog refused.place) said.body refused.refusal refused.cause)
+IsPlain-form said course reply is (inr (inl done)) =
+    IsPlain-bound done.place said done.bound course reply is done.form
+IsPlain-form said course reply is (inr (inr (inl starved))) =
+    subst IsPlain (same_Some _ _ (sym starved.reply ∙ is)) tt
+IsPlain-form said course reply is (inr (inr (inr (inl out)))) =
+    subst IsPlain (same_Some _ _ (sym out.reply ∙ is)) tt
+IsPlain-form said course reply is (inr (inr (inr (inr left)))) =
+    absurd (none-some reply (sym left.reply ∙ is))
 
--- nor do those of statements with such forms
-AllZip-plain : (limit : ℕ) (h : List Entry) (saids : List Said) (said : List Reply)
-    → AllZip (λ s reply. Form limit (place_of s.line h) s (added_by s.line h) reply) saids said
-    → AllByRecursion IsPlain said
-AllZip-plain limit h [] [] all = tt
-AllZip-plain limit h [] (reply ∷ more) all = absurd all
-AllZip-plain limit h (s ∷ saids) [] all = absurd all
-AllZip-plain limit h (s ∷ saids) (reply ∷ more) all = (
-  IsPlain-form limit (place_of s.line h) s (added_by s.line h) reply all.0,
-  AllZip-plain limit h saids more all.1,
+-- a reply is plain
+abbrev pub ShowsPlain : Shown → Type 0
+ShowsPlain shown = IsPlain shown.reply
+
+-- nor do the replies to statements with such forms
+Takes-plain : (o : Option ℕ) (said : Said) (ms : List Move) (others : List Shown → Type 0)
+    (replies : List Shown)
+    → ((more : List Shown) → others more → AllByRecursion ShowsPlain more)
+    → Takes o (λ reply. Form said (record { moves = ms; reply = reply })) others replies
+    → AllByRecursion ShowsPlain replies
+Takes-plain None said ms others replies rest takes = rest replies takes.1
+Takes-plain (Some line) said ms others [] rest takes = absurd takes
+Takes-plain (Some line) said ms others (shown ∷ more) rest takes = (
+  IsPlain-form said (record { moves = ms; reply = Some shown.reply }) shown.reply refl takes.1,
+  rest more takes.2,
 )
 
+Went-plain : (mine : List Move) (saids : List Said) (replies : List Shown) → Went Form mine saids replies
+    → AllByRecursion ShowsPlain replies
+Went-plain mine [] replies went = subst (AllByRecursion ShowsPlain) (sym went) tt
+Went-plain mine (said ∷ saids) replies went =
+    Takes-plain said.shown said (for_line said.line mine) (Went Form mine saids) replies
+    (Went-plain mine saids) went
+
+-- what holds of the replies of each session holds of all
+All-tail : (P : Shown → Type 0) (b : Bool) (shown : Shown) (more : List Shown)
+    → AllByRecursion P (cond b (shown ∷ more) more) → AllByRecursion P more
+All-tail P true shown more all = all.1
+All-tail P false shown more all = all
+
+All-sessions : (P : Shown → Type 0) (count : ℕ) (replies : List Shown)
+    → AllByRecursion (λ shown. shown.session < count) replies
+    → ((session : ℕ) → session < count → AllByRecursion P (shown_to session replies))
+    → AllByRecursion P replies
+All-sessions P count [] heard each = tt
+All-sessions P count (shown ∷ more) heard each =
+    let mine = each shown.session heard.0 in
+    let rest = shown_to shown.session more in
+    let first : AllByRecursion P (shown ∷ rest) =
+    subst (λ b. AllByRecursion P (cond b (shown ∷ rest) rest)) (eq-eqb shown.session shown.session refl) mine in (
+      first.0,
+      All-sessions P count more heard.1 (λ session there.
+          All-tail P (shown.session == session) shown (shown_to session more) (each session there)),
+    )
+
 -- nor do those of a legal history
-pub IsLegal-plain : (limit : ℕ) (script : Script) (h : List Entry) (said : List Reply)
-    → IsLegal limit script h said → AllByRecursion IsPlain said
-IsLegal-plain limit script h said legal = AllZip-plain limit h (statements script) said legal.answered
+pub IsLegal-plain : (script : Script) (h : List Entry) (replies : List Shown) → IsLegal script h replies
+    → AllByRecursion (λ shown. IsPlain shown.reply) replies
+IsLegal-plain script h replies legal =
+    All-sessions ShowsPlain (length script.names) replies legal.heard (λ session there.
+    Went-plain (moves_by (Session session) h) (said_by session (statements script)) (shown_to session replies)
+    (legal.sessions session there).answered)

@@ -1,6 +1,6 @@
 -- Which refusals a statement and its tables can give, and which names they give.
 use Rattle.std.proofs.Common.{◌≡◌, ℕ, zero, suc, List, [], ◌∷◌, ◌++◌, Option, Some, None, slice_get, Contains}
-use Rattle.std.proofs.Common.{Bool, not, sym, subst, inl, inr}
+use Rattle.std.proofs.Common.{Bool, not, refl, sym, subst, inl, inr}
 use Rattle.std.specs.List.{AllByRecursion, find}
 use Rattle.std.proofs.lemmas.Bool.{cond_both}
 use Rattle.std.proofs.lemmas.Option.{same_Some, none-some}
@@ -10,40 +10,112 @@ use Rattle.pj_parse.specs.declared.types.TreeColumn.{TreeColumn}
 use Rattle.pj_parse.specs.declared.types.TreeSelect.{TreeSelect}
 use Rattle.pj_value.specs.declared.value.Value.{Value}
 use Rattle.pj_expr.specs.declared.table.Table.{Table}
-use Rattle.pj_bind.specs.declared.types.LimitName.TheVariants.{History}
+use Rattle.pj_bind.specs.declared.types.LimitName.TheVariants.{Tables, Columns, History}
 use Rattle.pj_bind.specs.declared.types.Refusal.{Refusal}
-use Rattle.pj_bind.specs.declared.types.Refusal.TheVariants.{Syntax, Limit, NotBuilt, UnknownTable}
+use Rattle.pj_bind.specs.declared.types.Refusal.TheVariants.{Limit, NotBuilt, UnknownTable}
 use Rattle.pj_bind.specs.declared.types.Refusal.TheVariants.{TableExists}
 use Rattle.pj_bind.specs.declared.types.Refusal.TheVariants.{DuplicateColumn, UnknownIdentifier, TypeMismatch}
-use Rattle.pj_bind.specs.declared.types.Refusal.TheVariants.{NotAnAggregate, NoMemory}
-use Rattle.pj_bind.specs.Names.{Name, is_among, IsFirstRepeat}
+use Rattle.pj_bind.specs.declared.types.Refusal.TheVariants.{NotAnAggregate}
+use Rattle.pj_bind.specs.Causes.{Cause, ◌when◌, ◌naming◌}
+use Rattle.pj_bind.specs.Names.{Name, is_among, IsFirstRepeat, IsFirstUnknown}
 use Rattle.pj_bind.specs.Filling.{column_names, listed_names}
 use Rattle.pj_bind.specs.Queries.{column_names_of}
-use Rattle.pj_bind.specs.Binding.{new_names, RepeatsFirst, IsCreateRefusal, IsInsertRefusal, IsSelectRefusal}
-use Rattle.pj_bind.specs.Binding.{IsRefusedBy, IsRefusal}
+use Rattle.pj_bind.specs.Binding.{new_names, At, causes, IsRefusal}
+use Rattle.pj_bind.proofs.CauseLemmas.{Each, First-each}
+use Rattle.pj_legal.specs.Binding.{BodyIsRefused}
 use Rattle.pj_legal.proofs.SpelledWords.{All-front, All-back}
 use Rattle.pj_legal.proofs.StatementNames.{names_of}
 
--- the tables are no full journal
-IsRefusedBy-no_history : (tables : List Table) (s : Statement) → IsRefusedBy tables s (Limit History) → ⊥
-IsRefusedBy-no_history tables (statements.Create name columns projections key settings) by = by
-IsRefusedBy-no_history tables (statements.Insert name columns rows) (inl unknown) =
-    let e = unknown.0 in cc
-IsRefusedBy-no_history tables (statements.Insert name columns rows) (inr (place, table, at, by)) = by
-IsRefusedBy-no_history tables (statements.Select select) (inl unknown) = let e = unknown.0 in cc
-IsRefusedBy-no_history tables (statements.Select select) (inr (place, table, at, by)) = by
-IsRefusedBy-no_history tables (statements.Explain select) by = by
-IsRefusedBy-no_history tables (statements.Delete name filter sets) by = by
-IsRefusedBy-no_history tables (statements.Alter name action sets) by = by
-IsRefusedBy-no_history tables (statements.Optimize name) by = by
-IsRefusedBy-no_history tables (statements.Set sets) by = by
-IsRefusedBy-no_history tables (statements.Merge name) by = by
-IsRefusedBy-no_history tables (statements.Mutate name) by = by
+-- what a cause's refusals are
+abbrev Gives : (Refusal → Type 0) → Cause → Type 0
+Gives P cause = (refusal : Refusal) → cause refusal → P refusal
 
--- no statement is refused by the tables for a full journal
-pub IsRefusal-no_history : (tables : List Table) (s : Statement) → IsRefusal tables s (Limit History) → ⊥
-IsRefusal-no_history tables s (inl other) = let e = other.0 in cc
-IsRefusal-no_history tables s (inr (built, by)) = IsRefusedBy-no_history tables s by
+module _ (P : Refusal → Type 0) where
+  gives_when : (this : Refusal) (fact : Type 0) → (fact → P this) → Gives P (this when fact)
+  gives_when this fact holds refusal h = subst P (sym h.0) (holds h.1)
+
+  gives_naming : (telling : Name → Refusal) (fact : Name → Type 0)
+      → ((name : Name) → fact name → P (telling name)) → Gives P (telling naming fact)
+  gives_naming telling fact holds refusal h = subst P (sym h.1) (holds h.0 h.2)
+
+  gives_at : (tables : List Table) (name : Name) (cause : Table → Cause) → ((table : Table) → Gives P (cause table))
+      → Gives P (At tables name cause)
+  gives_at tables name cause holds refusal h = holds h.1 refusal h.3
+
+-- ---- a full journal
+
+-- the refusal is none for a full journal
+abbrev NotHistory : Refusal → Type 0
+NotHistory refusal = refusal ≡ Limit History → ⊥
+
+no_history : (tables : List Table) (s : Statement) → Each (Gives NotHistory) (causes tables s)
+no_history tables (statements.Create name columns projections key settings) = (
+  gives_when NotHistory NotBuilt _ (λ h e. cc),
+  (
+    gives_when NotHistory (TableExists name) _ (λ h e. cc),
+    (
+      gives_when NotHistory (Limit Tables) _ (λ h e. cc),
+      (
+        gives_when NotHistory (Limit Columns) _ (λ h e. cc),
+        (
+          gives_naming NotHistory DuplicateColumn _ (λ n h e. cc),
+          (
+            gives_naming NotHistory DuplicateColumn _ (λ n h e. cc),
+            (
+              gives_naming NotHistory UnknownIdentifier _ (λ n h e. cc),
+              tt,
+            ),
+          ),
+        ),
+      ),
+    ),
+  ),
+)
+no_history tables (statements.Insert name listed rows) = (
+  gives_when NotHistory NotBuilt _ (λ h e. cc),
+  (
+    gives_when NotHistory (UnknownTable name) _ (λ h e. cc),
+    (
+      gives_at NotHistory tables name _ (λ table. gives_naming NotHistory DuplicateColumn _ (λ n h e. cc)),
+      (
+        gives_at NotHistory tables name _ (λ table. gives_naming NotHistory UnknownIdentifier _ (λ n h e. cc)),
+        (
+          gives_at NotHistory tables name _ (λ table. gives_when NotHistory TypeMismatch _ (λ h e. cc)),
+          tt,
+        ),
+      ),
+    ),
+  ),
+)
+no_history tables (statements.Select select) = (
+  gives_when NotHistory NotBuilt _ (λ h e. cc),
+  (
+    gives_when NotHistory (UnknownTable select.table) _ (λ h e. cc),
+    (
+      gives_at NotHistory tables select.table _ (λ table. gives_naming NotHistory UnknownIdentifier _ (λ n h e. cc)),
+      (
+        gives_at NotHistory tables select.table _ (λ table. gives_when NotHistory TypeMismatch _ (λ h e. cc)),
+        (
+          gives_at NotHistory tables select.table _ (λ table. gives_when NotHistory NotAnAggregate _ (λ h e. cc)),
+          tt,
+        ),
+      ),
+    ),
+  ),
+)
+no_history tables (statements.Explain select) = (gives_when NotHistory NotBuilt _ (λ h e. cc), tt)
+no_history tables (statements.Delete name filter sets) = (gives_when NotHistory NotBuilt _ (λ h e. cc), tt)
+no_history tables (statements.Alter name action sets) = (gives_when NotHistory NotBuilt _ (λ h e. cc), tt)
+no_history tables (statements.Optimize name) = (gives_when NotHistory NotBuilt _ (λ h e. cc), tt)
+no_history tables (statements.Set sets) = (gives_when NotHistory NotBuilt _ (λ h e. cc), tt)
+no_history tables (statements.Merge name) = (gives_when NotHistory NotBuilt _ (λ h e. cc), tt)
+no_history tables (statements.Mutate name) = (gives_when NotHistory NotBuilt _ (λ h e. cc), tt)
+
+-- no body is refused for it
+pub BodyIsRefused-history : (tables : List Table) (body : List ℕ) → BodyIsRefused tables body (Limit History) → ⊥
+BodyIsRefused-history tables body (inl unreadable) = unreadable
+BodyIsRefused-history tables body (inr (s, reads, is)) =
+    First-each NotHistory (causes tables s) (no_history tables s) (Limit History) is refl
 
 -- ---- names
 
@@ -65,97 +137,88 @@ All-find {X} P test (y ∷ ys) x all here =
 module _ (P : Name → Type 0) where
   -- the name that a refusal gives, if any, has this
   abbrev pub Names : Refusal → Type 0
-  Names (Syntax at) = Unit {0}
-  Names (Limit limit) = Unit {0}
   Names (UnknownTable name) = P name
   Names (TableExists name) = P name
   Names (DuplicateColumn name) = P name
   Names (UnknownIdentifier name) = P name
-  Names TypeMismatch = Unit {0}
-  Names NotAnAggregate = Unit {0}
-  Names NotBuilt = Unit {0}
-  Names NoMemory = Unit {0}
+  Names refusal = Unit {0}
 
   -- a name that repeats an earlier one is one of the names
   repeats : (names : List Name) (name : Name) → AllByRecursion P names → IsFirstRepeat names name → P name
   repeats names name all is = All-slice_get P names is.at name all is.there
 
-  -- a CREATE's refusal gives its table's name, or one of its columns or its key
-  of_create : (tables : List Table) (name : Name) (columns : List TreeColumn) (key : List Name)
-      (refusal : Refusal) → P name
-      → AllByRecursion P (new_names columns ++ key) → IsCreateRefusal tables name columns key refusal
-      → Names refusal
-  of_create tables name columns key (TableExists other) named all is = subst P (sym is.0) named
-  of_create tables name columns key (DuplicateColumn other) named all is = by is.1
-    where
-      by : RepeatsFirst columns key other → P other
-      by (inl column) =
-          repeats (new_names columns) other (All-front P (new_names columns) key all) column
-      by (inr in_key) = repeats key other (All-back P (new_names columns) key all) in_key.1
-  of_create tables name columns key (UnknownIdentifier other) named all is =
-      All-find P (λ n. not (is_among (new_names columns) n)) key other
-      (All-back P (new_names columns) key all) is.2
-  of_create tables name columns key (Limit limit) named all is = tt
-  of_create tables name columns key (Syntax at) named all is = tt
-  of_create tables name columns key (UnknownTable other) named all is = absurd is
-  of_create tables name columns key NotBuilt named all is = tt
-  of_create tables name columns key TypeMismatch named all is = tt
-  of_create tables name columns key NotAnAggregate named all is = tt
-  of_create tables name columns key NoMemory named all is = tt
+  -- and so is one that is unknown
+  unknown : (known names : List Name) (name : Name) → AllByRecursion P names → IsFirstUnknown known names name
+      → P name
+  unknown known names name all is = All-find P (λ n. not (is_among known n)) names name all is
 
-  -- an INSERT's refusal by its table gives a name of its list
-  of_insert : (table : Table) (listed : Option (List Name)) (rows : List (List Value)) (refusal : Refusal)
-      → AllByRecursion P (listed_names listed) → IsInsertRefusal table listed rows refusal → Names refusal
-  of_insert table listed rows (DuplicateColumn name) all is = repeats (listed_names listed) name all is
-  of_insert table listed rows (UnknownIdentifier name) all is =
-      All-find P (λ n. not (is_among (column_names table.columns) n)) (listed_names listed) name all is.1
-  of_insert table listed rows TypeMismatch all is = tt
-  of_insert table listed rows (Syntax at) all is = tt
-  of_insert table listed rows (Limit limit) all is = tt
-  of_insert table listed rows (UnknownTable name) all is = absurd is
-  of_insert table listed rows (TableExists name) all is = absurd is
-  of_insert table listed rows NotBuilt all is = tt
-  of_insert table listed rows NotAnAggregate all is = tt
-  of_insert table listed rows NoMemory all is = tt
-
-  -- a SELECT's refusal by its table gives one of its names
-  of_select : (table : Table) (select : TreeSelect) (refusal : Refusal)
-      → AllByRecursion P (column_names_of select) → IsSelectRefusal table select refusal → Names refusal
-  of_select table select (UnknownIdentifier name) all is =
-      All-find P (λ n. not (is_among (column_names table.columns) n)) (column_names_of select) name all is
-  of_select table select TypeMismatch all is = tt
-  of_select table select NotAnAggregate all is = tt
-  of_select table select (Syntax at) all is = tt
-  of_select table select (Limit limit) all is = tt
-  of_select table select (UnknownTable name) all is = absurd is
-  of_select table select (TableExists name) all is = absurd is
-  of_select table select (DuplicateColumn name) all is = absurd is
-  of_select table select NotBuilt all is = tt
-  of_select table select NoMemory all is = tt
-
-  -- a refusal by the tables gives none but the statement's names
-  IsRefusedBy-names : (tables : List Table) (s : Statement) (refusal : Refusal)
-      → AllByRecursion P (names_of s) → IsRefusedBy tables s refusal → Names refusal
-  IsRefusedBy-names tables (statements.Create name columns projections key settings) refusal all by =
-      of_create tables name columns key refusal all.0 all.1 by
-  IsRefusedBy-names tables (statements.Insert name columns rows) refusal all (inl unknown) =
-      subst Names (sym unknown.0) all.0
-  IsRefusedBy-names tables (statements.Insert name columns rows) refusal all (inr (place, table, at, by)) =
-      of_insert table columns rows refusal all.1 by
-  IsRefusedBy-names tables (statements.Select select) refusal all (inl unknown) =
-      subst Names (sym unknown.0) all.0
-  IsRefusedBy-names tables (statements.Select select) refusal all (inr (place, table, at, by)) =
-      of_select table select refusal all.1 by
-  IsRefusedBy-names tables (statements.Explain select) refusal all by = absurd by
-  IsRefusedBy-names tables (statements.Delete name filter sets) refusal all by = absurd by
-  IsRefusedBy-names tables (statements.Alter name action sets) refusal all by = absurd by
-  IsRefusedBy-names tables (statements.Optimize name) refusal all by = absurd by
-  IsRefusedBy-names tables (statements.Set sets) refusal all by = absurd by
-  IsRefusedBy-names tables (statements.Merge name) refusal all by = absurd by
-  IsRefusedBy-names tables (statements.Mutate name) refusal all by = absurd by
+  -- each cause of a statement gives no name, or one of the statement's
+  gives_names : (tables : List Table) (s : Statement) → AllByRecursion P (names_of s)
+      → Each (Gives Names) (causes tables s)
+  gives_names tables (statements.Create name columns projections key settings) all = (
+    gives_when Names NotBuilt _ (λ h. tt),
+    (
+      gives_when Names (TableExists name) _ (λ h. all.0),
+      (
+        gives_when Names (Limit Tables) _ (λ h. tt),
+        (
+          gives_when Names (Limit Columns) _ (λ h. tt),
+          (
+            gives_naming Names DuplicateColumn _ (λ n h. repeats (new_names columns) n (All-front P (new_names columns) key all.1) h),
+            (
+              gives_naming Names DuplicateColumn _ (λ n h. repeats key n (All-back P (new_names columns) key all.1) h),
+              (
+                gives_naming Names UnknownIdentifier _ (λ n h. unknown (new_names columns) key n (All-back P (new_names columns) key all.1) h),
+                tt,
+              ),
+            ),
+          ),
+        ),
+      ),
+    ),
+  )
+  gives_names tables (statements.Insert name listed rows) all = (
+    gives_when Names NotBuilt _ (λ h. tt),
+    (
+      gives_when Names (UnknownTable name) _ (λ h. all.0),
+      (
+        gives_at Names tables name _ (λ table. gives_naming Names DuplicateColumn _ (λ n h. repeats (listed_names listed) n all.1 h)),
+        (
+          gives_at Names tables name _ (λ table. gives_naming Names UnknownIdentifier _ (λ n h. unknown (column_names table.columns) (listed_names listed) n all.1 h)),
+          (
+            gives_at Names tables name _ (λ table. gives_when Names TypeMismatch _ (λ h. tt)),
+            tt,
+          ),
+        ),
+      ),
+    ),
+  )
+  gives_names tables (statements.Select select) all = (
+    gives_when Names NotBuilt _ (λ h. tt),
+    (
+      gives_when Names (UnknownTable select.table) _ (λ h. all.0),
+      (
+        gives_at Names tables select.table _ (λ table. gives_naming Names UnknownIdentifier _ (λ n h. unknown (column_names table.columns) (column_names_of select) n all.1 h)),
+        (
+          gives_at Names tables select.table _ (λ table. gives_when Names TypeMismatch _ (λ h. tt)),
+          (
+            gives_at Names tables select.table _ (λ table. gives_when Names NotAnAggregate _ (λ h. tt)),
+            tt,
+          ),
+        ),
+      ),
+    ),
+  )
+  gives_names tables (statements.Explain select) all = (gives_when Names NotBuilt _ (λ h. tt), tt)
+  gives_names tables (statements.Delete name filter sets) all = (gives_when Names NotBuilt _ (λ h. tt), tt)
+  gives_names tables (statements.Alter name action sets) all = (gives_when Names NotBuilt _ (λ h. tt), tt)
+  gives_names tables (statements.Optimize name) all = (gives_when Names NotBuilt _ (λ h. tt), tt)
+  gives_names tables (statements.Set sets) all = (gives_when Names NotBuilt _ (λ h. tt), tt)
+  gives_names tables (statements.Merge name) all = (gives_when Names NotBuilt _ (λ h. tt), tt)
+  gives_names tables (statements.Mutate name) all = (gives_when Names NotBuilt _ (λ h. tt), tt)
 
   -- a refusal of a statement gives none but the statement's names
   pub IsRefusal-names : (tables : List Table) (s : Statement) (refusal : Refusal)
       → AllByRecursion P (names_of s) → IsRefusal tables s refusal → Names refusal
-  IsRefusal-names tables s refusal all (inl other) = subst Names (sym other.0) tt
-  IsRefusal-names tables s refusal all (inr (built, by)) = IsRefusedBy-names tables s refusal all by
+  IsRefusal-names tables s refusal all is =
+      First-each Names (causes tables s) (gives_names tables s all) refusal is

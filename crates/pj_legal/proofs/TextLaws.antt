@@ -1,12 +1,13 @@
 -- The texts of replies: one after the other, and read back.
 use Rattle.std.proofs.Common.{◌≡◌, ℕ, ◌+◌, ◌/◌, ◌%◌, ◌^◌, ◌<◌, ◌≤◌, ◌++◌, length, zero}
-use Rattle.std.proofs.Common.{suc, pred, true, false, ltb, List, [], ◌∷◌, sym, refl}
+use Rattle.std.proofs.Common.{suc, true, false, ltb, List, [], ◌∷◌, sym, refl}
 use Rattle.std.proofs.Common.{ap, ◌∙◌, subst, arith, append-nil, append_assoc}
 use Rattle.std.specs.Prelude.{Contains, ◌==◌, codes, slice_index}
 use Rattle.std.specs.List.{AllByRecursion, flat_map}
 use Rattle.std.specs.Fmt.{decimal, digits, digits_onto, digit_glyph}
 use Rattle.std.proofs.lemmas.Bool.{false≢true, cond_both}
 use Rattle.std.proofs.lemmas.List.{append_cancel_left}
+use Rattle.std.proofs.lemmas.List.Concat.{flat_map-append}
 use Rattle.std.proofs.lemmas.Fmt.{decimal_injective}
 use Rattle.pj_lex.specs.Bytes.{is_small, AllAre}
 use Rattle.pj_parse.specs.Lines.{IsName, is_name_byte}
@@ -16,26 +17,17 @@ use Rattle.pj_bind.specs.declared.types.LimitName.{LimitName}
 use Rattle.pj_bind.specs.declared.types.LimitName.TheVariants as limits
 use Rattle.pj_bind.specs.declared.types.Refusal.{Refusal}
 use Rattle.pj_bind.specs.declared.types.Refusal.TheVariants as refusals
-use Rattle.pj_legal.specs.Legal.{Said}
-use Rattle.pj_legal.specs.Texts.{texts_of, reply_text, limit_text, refusal_text}
-use Rattle.pj_legal.specs.Texts.{name_at, announced, following, as_line}
+use Rattle.pj_legal.specs.Statements.{Shown}
+use Rattle.pj_legal.specs.Texts.{shown_text, replies_text, reply_text, limit_text, refusal_text}
+use Rattle.pj_legal.specs.Texts.{announced, following, as_line}
 use Rattle.pj_legal.specs.Laws.{IsPlainRefusal, IsPlain, HasSmallPlace, SayTheSame}
 
 -- one more reply
-pub texts_of-push : (names : List (List ℕ)) (saids : List Said) (replies : List Reply) (said : Said)
-    (reply : Reply)
-    → length saids ≡ length replies
-    → texts_of names (saids ++ said ∷ []) (replies ++ reply ∷ [])
-    ≡ texts_of names saids replies ++ reply_text said.line (name_at names said.session) reply
-texts_of-push names [] [] said reply same =
-    append-nil (reply_text said.line (name_at names said.session) reply)
-texts_of-push names [] (r ∷ more) said reply same = absurd (cc)
-texts_of-push names (s ∷ saids) [] said reply same = absurd (cc)
-texts_of-push names (s ∷ saids) (r ∷ more) said reply same =
-    ap (λ text. reply_text s.line (name_at names s.session) r ++ text)
-    (texts_of-push names saids more said reply (ap pred same))
-    ∙ sym (append_assoc (reply_text s.line (name_at names s.session) r) (texts_of names saids more)
-    (reply_text said.line (name_at names said.session) reply))
+pub replies_text-push : (names : List (List ℕ)) (replies : List Shown) (shown : Shown)
+    → replies_text names (replies ++ shown ∷ []) ≡ replies_text names replies ++ shown_text names shown
+replies_text-push names replies shown =
+    flat_map-append (shown_text names) replies (shown ∷ [])
+    ∙ ap (λ (text : List ℕ). replies_text names replies ++ text) (append-nil (shown_text names shown))
 
 -- no byte of the text is this one
 abbrev pub IsFree : ℕ → List ℕ → Type 0

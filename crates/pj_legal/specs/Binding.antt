@@ -10,11 +10,9 @@ use Rattle.pj_parse.specs.GrammarStatements.{Line}
 use Rattle.pj_parse.specs.Statements.{HasTooMany, IsSyntaxError}
 use Rattle.pj_expr.specs.declared.table.Table.{Table}
 use Rattle.pj_bind.specs.declared.types.Bound.{Bound}
-use Rattle.pj_bind.specs.declared.types.LimitName.TheVariants.{History, Tokens, Text, Tables, Columns}
+use Rattle.pj_bind.specs.declared.types.LimitName.TheVariants.{Tokens, Text}
 use Rattle.pj_bind.specs.declared.types.Refusal.{Refusal}
-use Rattle.pj_bind.specs.declared.types.Refusal.TheVariants.{Syntax, Limit, UnknownTable, TableExists}
-use Rattle.pj_bind.specs.declared.types.Refusal.TheVariants.{DuplicateColumn, UnknownIdentifier, TypeMismatch}
-use Rattle.pj_bind.specs.declared.types.Refusal.TheVariants.{NotAnAggregate, NotBuilt, NoMemory}
+use Rattle.pj_bind.specs.declared.types.Refusal.TheVariants.{Syntax, Limit}
 use Rattle.pj_bind.specs.Built.{IsBuilt}
 use Rattle.pj_bind.specs.Binding.{IsBound, IsRefusal}
 
@@ -65,17 +63,7 @@ abbrev pub IsUnreadable : List ℕ → Refusal → Type 0
 IsUnreadable body (Syntax at) = BreaksAt body at ⊎ IsOffGrammar body at
 IsUnreadable body (Limit Tokens) = HasManyTokens body
 IsUnreadable body (Limit Text) = HasLongLine body
-IsUnreadable body (Limit Tables) = ⊥
-IsUnreadable body (Limit Columns) = ⊥
-IsUnreadable body (Limit History) = ⊥
-IsUnreadable body (UnknownTable name) = ⊥
-IsUnreadable body (TableExists name) = ⊥
-IsUnreadable body (DuplicateColumn name) = ⊥
-IsUnreadable body (UnknownIdentifier name) = ⊥
-IsUnreadable body TypeMismatch = ⊥
-IsUnreadable body NotAnAggregate = ⊥
-IsUnreadable body NotBuilt = ⊥
-IsUnreadable body NoMemory = ⊥
+IsUnreadable body refusal = ⊥
 
 -- ---- what a body means
 

@@ -1,7 +1,7 @@
 -- Laws over the definitions of this crate, each shown by a function of its own (src/laws.rt).
-use Rattle.std.specs.Prelude.{◌≡◌, ℕ, ◌≤◌, List, [], ◌∷◌, ◌++◌, length, take, filter}
-use Rattle.std.specs.Prelude.{Some, slice_get, ◌<◌, ◌^◌, ◌⊎◌, Contains, nat_lt}
-use Rattle.std.specs.List.{AllByRecursion, AllZip}
+use Rattle.std.specs.Prelude.{◌≡◌, ℕ, ◌<◌, ◌≤◌, ◌^◌, ◌⊎◌, List, [], ◌∷◌, ◌++◌, length, map}
+use Rattle.std.specs.Prelude.{take, Contains}
+use Rattle.std.specs.List.{AllByRecursion}
 use Rattle.std.specs.Fmt.{decimal}
 use Rattle.pj_lex.specs.Laws.{OneList, NoTokensWithABreak, OneBreak}
 use Rattle.pj_parse.specs.declared.types.Script.{Script}
@@ -17,58 +17,53 @@ use Rattle.pj_bind.specs.declared.types.Bound.{Bound}
 use Rattle.pj_bind.specs.declared.types.LimitName.TheVariants.{History}
 use Rattle.pj_bind.specs.declared.types.Refusal.{Refusal}
 use Rattle.pj_bind.specs.declared.types.Refusal.TheVariants.{Syntax, Limit, UnknownTable, TableExists}
-use Rattle.pj_bind.specs.declared.types.Refusal.TheVariants.{DuplicateColumn, UnknownIdentifier, TypeMismatch}
-use Rattle.pj_bind.specs.declared.types.Refusal.TheVariants.{NotAnAggregate, NotBuilt, NoMemory}
+use Rattle.pj_bind.specs.declared.types.Refusal.TheVariants.{DuplicateColumn, UnknownIdentifier}
 use Rattle.pj_bind.specs.Laws.{HasUniqueNames}
-use Rattle.pj_legal.specs.Legal.{Said, statements, Form, IsLegal}
-use Rattle.pj_legal.specs.Run.{Run, LinesRise, cut}
-use Rattle.pj_legal.specs.Texts.{texts_of, reply_text, announced, name_at}
-use Rattle.pj_legal.specs.Binding.{BodyReads, BodyBinds, BodyIsRefused}
+use Rattle.pj_legal.specs.Statements.{Said, statements, Shown}
+use Rattle.pj_legal.specs.Shares.{Rise}
+use Rattle.pj_legal.specs.Legal.{IsLegal, IsPlayed}
+use Rattle.pj_legal.specs.Full.{KeepsLimit}
+use Rattle.pj_legal.specs.Run.{Run, Ran, shown_at, cut}
+use Rattle.pj_legal.specs.Texts.{replies_text, shown_text, reply_text, announced}
+use Rattle.pj_legal.specs.Binding.{BodyReads, IsUnreadable, BodyBinds, BodyIsRefused}
 
--- a run of a script's first statements leaves a legal history of the script that has no other lines
+-- the lines of statements
+abbrev pub lines_said : List Said → List ℕ
+lines_said saids = map (λ said. said.line) saids
+
+-- each line of the script names a session of it
+abbrev pub AreNamed : Script → Type 0
+AreNamed script = AllByRecursion (λ line. line.name < length script.names) script.lines
+
+-- a run of a script's statements from nothing on is one of a single thread, and keeps the limit
+abbrev pub RunsAreLegal : Type 0
+RunsAreLegal =
+    (limit : ℕ) (script : Script) (replies : List Shown) (h : List Entry)
+    → Rise 0 (lines_said (statements script)) → AreNamed script
+    → Run limit [] (statements script) replies h → IsRegular h → length h ≤ limit
+    → IsPlayed script h replies × KeepsLimit limit script h replies
+
+-- a run of a script's first statements is one of the script that has no other lines
 abbrev pub CutRunsAreLegal : Type 0
 CutRunsAreLegal =
-    (limit n : ℕ) (script : Script) (replies : List Reply) (h : List Entry) → LinesRise 0 (statements script)
+    (limit n : ℕ) (script : Script) (replies : List Shown) (h : List Entry)
+    → Rise 0 (lines_said (statements script)) → AreNamed script
     → Run limit [] (take n (statements script)) replies h → IsRegular h → length h ≤ limit
-    → IsLegal limit (cut n script) h replies
-
--- the moves of the lines before this one: the history that the statement of the line found
-abbrev pub found_by : ℕ → List Entry → List Entry
-found_by line h = filter (λ entry. nat_lt entry.line line) h
-
--- a statement that found the journal full was refused for that, or for want of memory
-abbrev pub IsRefusedWhereFull : ℕ → List Entry → Said → Reply → Type 0
-IsRefusedWhereFull limit h said reply =
-    length (found_by said.line h) ≡ limit
-    → (reply ≡ replies.Refused (Limit History)) ⊎ (reply ≡ replies.Refused NoMemory)
-
--- in a legal history a full journal refuses each statement
-abbrev pub FullRefusesAll : Type 0
-FullRefusesAll =
-    (limit : ℕ) (script : Script) (h : List Entry) (replies : List Reply) → IsLegal limit script h replies
-    → AllZip (IsRefusedWhereFull limit h) (statements script) replies
+    → IsPlayed (cut n script) h replies × KeepsLimit limit (cut n script) h replies
 
 -- a run goes on by one more statement, from where it ended
 abbrev pub RunGoesOn : Type 0
 RunGoesOn =
-    (limit : ℕ) (place : List Entry) (saids : List Said) (replies : List Reply) (mid : List Entry)
+    (limit : ℕ) (place : List Entry) (saids : List Said) (replies : List Shown) (mid : List Entry)
     (said : Said) (added : List Entry) (reply : Reply)
-    → Run limit place saids replies mid → Form limit mid said added reply
-    → Run limit place (saids ++ said ∷ []) (replies ++ reply ∷ []) (mid ++ added)
-
--- a run has a reply to each of its statements
-abbrev pub RunIsAsLong : Type 0
-RunIsAsLong =
-    (limit : ℕ) (place : List Entry) (saids : List Said) (replies : List Reply) (h : List Entry)
-    → Run limit place saids replies h → length saids ≡ length replies
+    → Run limit place saids replies mid → Ran limit mid said added reply
+    → Run limit place (saids ++ said ∷ []) (replies ++ shown_at said reply ∷ []) (mid ++ added)
 
 -- the text of one more reply stands behind those of the others
 abbrev pub TextsGoOn : Type 0
 TextsGoOn =
-    (names : List (List ℕ)) (saids : List Said) (replies : List Reply) (said : Said) (reply : Reply)
-    → length saids ≡ length replies
-    → texts_of names (saids ++ said ∷ []) (replies ++ reply ∷ [])
-    ≡ texts_of names saids replies ++ reply_text said.line (name_at names said.session) reply
+    (names : List (List ℕ)) (replies : List Shown) (shown : Shown)
+    → replies_text names (replies ++ shown ∷ []) ≡ replies_text names replies ++ shown_text names shown
 
 -- the catalog of a regular history has no two tables of one name
 abbrev pub NamesAreUnique : Type 0
@@ -86,17 +81,39 @@ pub record HasOneMeaning : Type 0 where
 abbrev pub OneBodyReading : Type 0
 OneBodyReading = (body : List ℕ) (a b : Statement) → BodyReads body a → BodyReads body b → a ≡ b
 
--- where no two tables have one name, a body that binds isn't refused
+-- a body is read as a statement, or can't be read
+abbrev pub BodyReadOrNot : Type 0
+BodyReadOrNot =
+    (body : List ℕ)
+    → ((statement : Statement) × BodyReads body statement) ⊎ ((refusal : Refusal) × IsUnreadable body refusal)
+
+-- a body binds, or is refused
 abbrev pub BodyBoundOrRefused : Type 0
 BodyBoundOrRefused =
-    (tables : List Table) (body : List ℕ) (bound : Bound) (refusal : Refusal) → HasUniqueNames tables
-    → BodyBinds tables body bound → BodyIsRefused tables body refusal → ⊥
+    (tables : List Table) (body : List ℕ)
+    → ((bound : Bound) × BodyBinds tables body bound) ⊎ ((refusal : Refusal) × BodyIsRefused tables body refusal)
 
--- where no two tables have one name, a body is refused in one way at most
+-- a body binds in one way at most
+abbrev pub OneBodyBound : Type 0
+OneBodyBound =
+    (tables : List Table) (body : List ℕ) (a b : Bound) → BodyBinds tables body a → BodyBinds tables body b
+    → a ≡ b
+
+-- a body that binds isn't refused
+abbrev pub NoBoundBodyIsRefused : Type 0
+NoBoundBodyIsRefused =
+    (tables : List Table) (body : List ℕ) (bound : Bound) (refusal : Refusal) → BodyBinds tables body bound
+    → BodyIsRefused tables body refusal → ⊥
+
+-- a body is refused in one way at most
 abbrev pub OneBodyRefusal : Type 0
 OneBodyRefusal =
-    (tables : List Table) (body : List ℕ) (a b : Refusal) → HasUniqueNames tables
-    → BodyIsRefused tables body a → BodyIsRefused tables body b → a ≡ b
+    (tables : List Table) (body : List ℕ) (a b : Refusal) → BodyIsRefused tables body a
+    → BodyIsRefused tables body b → a ≡ b
+
+-- no body is refused for a full journal: that cause stands in no body
+abbrev pub HistoryRefusesNoBody : Type 0
+HistoryRefusesNoBody = (tables : List Table) (body : List ℕ) → BodyIsRefused tables body (Limit History) → ⊥
 
 -- numbers of one text in decimal are one
 abbrev pub TextsTellNumbers : Type 0
@@ -108,16 +125,11 @@ IsOneLine text = Contains text 10 → ⊥
 
 -- no line feed in the name that a refusal gives
 abbrev pub IsPlainRefusal : Refusal → Type 0
-IsPlainRefusal (Syntax at) = Unit {0}
-IsPlainRefusal (Limit limit) = Unit {0}
 IsPlainRefusal (UnknownTable name) = IsOneLine name
 IsPlainRefusal (TableExists name) = IsOneLine name
 IsPlainRefusal (DuplicateColumn name) = IsOneLine name
 IsPlainRefusal (UnknownIdentifier name) = IsOneLine name
-IsPlainRefusal TypeMismatch = Unit {0}
-IsPlainRefusal NotAnAggregate = Unit {0}
-IsPlainRefusal NotBuilt = Unit {0}
-IsPlainRefusal NoMemory = Unit {0}
+IsPlainRefusal refusal = Unit {0}
 
 -- no line feed in a name that a reply gives
 abbrev pub IsPlain : Reply → Type 0
@@ -127,8 +139,8 @@ IsPlain reply = Unit {0}
 -- no name that a legal reply gives has a line feed
 abbrev pub LegalRepliesArePlain : Type 0
 LegalRepliesArePlain =
-    (limit : ℕ) (script : Script) (h : List Entry) (said : List Reply) → IsLegal limit script h said
-    → AllByRecursion IsPlain said
+    (script : Script) (h : List Entry) (replies : List Shown) → IsLegal script h replies
+    → AllByRecursion (λ shown. IsPlain shown.reply) replies
 
 -- from a text that begins with a reply its line and its name can be read, and what it announces where its
 -- names have no line feed
@@ -142,15 +154,7 @@ RepliesAreToldApart =
 -- the place that a refusal gives, if any, is below 2 ^ 64
 abbrev pub HasSmallPlace : Refusal → Type 0
 HasSmallPlace (Syntax at) = at < 2 ^ 64
-HasSmallPlace (Limit limit) = Unit {0}
-HasSmallPlace (UnknownTable name) = Unit {0}
-HasSmallPlace (TableExists name) = Unit {0}
-HasSmallPlace (DuplicateColumn name) = Unit {0}
-HasSmallPlace (UnknownIdentifier name) = Unit {0}
-HasSmallPlace TypeMismatch = Unit {0}
-HasSmallPlace NotAnAggregate = Unit {0}
-HasSmallPlace NotBuilt = Unit {0}
-HasSmallPlace NoMemory = Unit {0}
+HasSmallPlace refusal = Unit {0}
 
 -- both are done, have as many rows (below 2 ^ 64), or are refused in the same way
 abbrev pub SayTheSame : Reply → Reply → Type 0

@@ -1,31 +1,38 @@
--- Statements one after the other, as one thread runs them. A run is legal (`runs_are_legal`).
-use Rattle.std.specs.Prelude.{◌≡◌, ℕ, ◌<◌, ◌≤◌, List, [], ◌∷◌, ◌++◌, length, take}
+-- Whole statements one after the other, as one thread runs them. A run is legal (`runs_are_legal`).
+use Rattle.std.specs.Prelude.{◌≡◌, ℕ, ◌+◌, List, [], ◌∷◌, ◌++◌, Some, length, take}
 use Rattle.pj_parse.specs.declared.types.Script.{Script}
 use Rattle.pj_journal.specs.declared.entry.Entry.{Entry}
-use Rattle.pj_journal.specs.History.{IsRegular}
+use Rattle.pj_journal.specs.Moves.{moves_from}
 use Rattle.pj_legal.specs.declared.reply.Reply.{Reply}
-use Rattle.pj_legal.specs.Legal.{Said, statements, Form, IsLegal}
+use Rattle.pj_legal.specs.Statements.{Said, Shown}
+use Rattle.pj_legal.specs.Forms.{Course, Form, history_full}
+use Rattle.pj_legal.specs.Full.{HasNext}
+
+-- how a statement went that added these entries to its place, and got this reply
+abbrev pub course : List Entry → List Entry → Reply → Course
+course place added reply = record { moves = moves_from place added; reply = Some reply }
+
+-- the statement ran from its place: it added these entries, and got this reply
+pub record Ran (limit : ℕ) (place : List Entry) (said : Said) (added : List Entry) (reply : Reply)
+    : Type 0 where
+  pub form : Form said (course place added reply)
+  pub full : reply ≡ history_full → length place + length added ≡ limit
+  pub told : length place + length added ≡ limit → HasNext (moves_from place added) → reply ≡ history_full
+
+-- the reply to a statement, at its line
+abbrev pub shown_at : Said → Reply → Shown
+shown_at said reply = record { line = said.line; session = said.session; reply = reply }
 
 -- the statements lead from one history to the other, each with its reply
-abbrev pub Run : ℕ → List Entry → List Said → List Reply → List Entry → Type 0
+abbrev pub Run : ℕ → List Entry → List Said → List Shown → List Entry → Type 0
 Run limit place [] [] end = end ≡ place
-Run limit place [] (reply ∷ more) end = ⊥
+Run limit place [] (shown ∷ more) end = ⊥
 Run limit place (said ∷ saids) [] end = ⊥
-Run limit place (said ∷ saids) (reply ∷ more) end =
-    (added : List Entry) × Form limit place said added reply × Run limit (place ++ added) saids more end
-
--- the lines of the statements rise, each above the one before
-abbrev pub LinesRise : ℕ → List Said → Type 0
-LinesRise low [] = Unit {0}
-LinesRise low (said ∷ more) = (low < said.line) × LinesRise said.line more
+Run limit place (said ∷ saids) (shown ∷ more) end =
+    (shown ≡ shown_at said shown.reply)
+    × ((added : List Entry) × Ran limit place said added shown.reply
+    × Run limit (place ++ added) saids more end)
 
 -- the script with its first lines alone
 abbrev pub cut : ℕ → Script → Script
 cut n script = record script { lines = take n script.lines }
-
--- a run of a script's statements from nothing on leaves a legal history
-abbrev pub RunsAreLegal : Type 0
-RunsAreLegal =
-    (limit : ℕ) (script : Script) (replies : List Reply) (h : List Entry) → LinesRise 0 (statements script)
-    → Run limit [] (statements script) replies h → IsRegular h → length h ≤ limit
-    → IsLegal limit script h replies

@@ -5,9 +5,8 @@ use Rattle.std.specs.Fmt.{decimal}
 use Rattle.pj_value.specs.declared.value.Value.{Value}
 use Rattle.pj_value.specs.declared.value.Value.TheVariants as values
 use Rattle.pj_value.specs.Escaping.{escaped}
-use Rattle.pj_parse.specs.declared.types.Script.{Script}
 use Rattle.pj_journal.specs.declared.entry.Actor.{Actor}
-use Rattle.pj_journal.specs.declared.entry.Actor.TheVariants.{Session}
+use Rattle.pj_journal.specs.declared.entry.Actor.TheVariants.{Session, Worker}
 use Rattle.pj_journal.specs.declared.entry.What.{What}
 use Rattle.pj_journal.specs.declared.entry.What.TheVariants as whats
 use Rattle.pj_journal.specs.declared.entry.Entry.{Entry}
@@ -19,7 +18,7 @@ use Rattle.pj_bind.specs.declared.types.Refusal.{Refusal}
 use Rattle.pj_bind.specs.declared.types.Refusal.TheVariants as refusals
 use Rattle.pj_legal.specs.declared.reply.Reply.{Reply}
 use Rattle.pj_legal.specs.declared.reply.Reply.TheVariants as replies
-use Rattle.pj_legal.specs.Legal.{Said, statements}
+use Rattle.pj_legal.specs.Statements.{Shown}
 
 -- a value in a line of output
 abbrev pub value_text : Value → List ℕ
@@ -76,20 +75,18 @@ reply_text line name reply =
 abbrev pub name_at : List (List ℕ) → ℕ → List ℕ
 name_at names number = slice_index_or names number []
 
--- the replies of statements, in their order
-abbrev pub texts_of : List (List ℕ) → List Said → List Reply → List ℕ
-texts_of names [] more = []
-texts_of names (said ∷ saids) [] = []
-texts_of names (said ∷ saids) (reply ∷ more) =
-    reply_text said.line (name_at names said.session) reply ++ texts_of names saids more
+-- a reply as it is shown, with the name of its session
+abbrev pub shown_text : List (List ℕ) → Shown → List ℕ
+shown_text names shown = reply_text shown.line (name_at names shown.session) shown.reply
 
--- the replies of a script
-abbrev pub replies_text : Script → List Reply → List ℕ
-replies_text script said = texts_of script.names (statements script) said
+-- replies, in their order
+abbrev pub replies_text : List (List ℕ) → List Shown → List ℕ
+replies_text names replies = flat_map (shown_text names) replies
 
 -- who made an entry
 abbrev pub actor_text : List (List ℕ) → Actor → List ℕ
 actor_text names (Session number) = name_at names number
+actor_text names (Worker number) = 42 ∷ decimal number
 
 -- what an entry did, with the names of the tables of its place
 abbrev pub what_text : List (List ℕ) → What → List ℕ

@@ -58,6 +58,10 @@ fn put_actor(out: &mut Vec<u8>, names: &[Text], actor: Actor) -> Result<(), NoMe
 {
     match actor {
         Actor::Session(number) => put_name(out, names, number),
+        Actor::Worker(number) => {
+            out.push(b'*')?;
+            put_number(out, number as u64)
+        }
     }
 }
 

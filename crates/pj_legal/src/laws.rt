@@ -1,10 +1,12 @@
 //! Laws over the definitions of this crate. Each function does nothing: its clause is the law.
-ghost use Rattle.pj_legal.specs.Laws.{CutRunsAreLegal, FullRefusesAll, RunGoesOn, RunIsAsLong};
+ghost use Rattle.pj_legal.specs.Joining.{SessionSharesGoOn, WorkerSharesGoOn, SharesAreLegal};
+ghost use Rattle.pj_legal.specs.Laws.{RunsAreLegal, CutRunsAreLegal, RunGoesOn};
 ghost use Rattle.pj_legal.specs.Laws.{TextsGoOn, NamesAreUnique};
-ghost use Rattle.pj_legal.specs.Laws.{OneBodyReading, BodyBoundOrRefused, OneBodyRefusal};
+ghost use Rattle.pj_legal.specs.Laws.{OneBodyReading, BodyReadOrNot, BodyBoundOrRefused, OneBodyBound};
+ghost use Rattle.pj_legal.specs.Laws.{NoBoundBodyIsRefused, OneBodyRefusal};
+ghost use Rattle.pj_legal.specs.Laws.{HistoryRefusesNoBody};
 ghost use Rattle.pj_legal.specs.Laws.{TextsTellNumbers, LegalRepliesArePlain};
 ghost use Rattle.pj_legal.specs.Laws.{RepliesAreToldApart, AnnouncementsAreToldApart};
-ghost use Rattle.pj_legal.specs.Run.{RunsAreLegal};
 
 /// What one thread leaves that runs a script's statements in their order is a legal history.
 pub fn runs_are_legal()
@@ -17,20 +19,24 @@ pub fn cut_runs()
     ensures { CutRunsAreLegal }
 {}
 
-/// In a legal history a statement that found the journal full, by the moves of the lines before it, was
-/// refused for that or for want of memory.
-pub fn full_refuses_all()
-    ensures { FullRefusesAll }
+/// A session's share of a history holds in each longer one that has no further entry of the session.
+pub fn session_shares_go_on()
+    ensures { SessionSharesGoOn }
+{}
+
+/// A worker's share of a history holds in each longer one that has no further entry of the worker.
+pub fn worker_shares_go_on()
+    ensures { WorkerSharesGoOn }
+{}
+
+/// Legality is the conjunction of shares, each of which may hold in a prefix of the history alone.
+pub fn shares_are_legal()
+    ensures { SharesAreLegal }
 {}
 
 /// A run goes on by one more statement.
 pub fn run_goes_on()
     ensures { RunGoesOn }
-{}
-
-/// A run has as many replies as statements.
-pub fn run_is_as_long()
-    ensures { RunIsAsLong }
 {}
 
 /// The text of one more reply stands behind those of the others.
@@ -48,14 +54,34 @@ pub fn one_body_reading()
     ensures { OneBodyReading }
 {}
 
-/// A body that binds isn't refused, where no two tables have one name.
+/// A body is read as a statement, or can't be read.
+pub fn body_read_or_not()
+    ensures { BodyReadOrNot }
+{}
+
+/// A body binds, or is refused.
 pub fn body_bound_or_refused()
     ensures { BodyBoundOrRefused }
 {}
 
-/// A body is refused in one way at most, with one cause and at one place, where no two tables have one name.
+/// A body binds in one way at most.
+pub fn one_body_bound()
+    ensures { OneBodyBound }
+{}
+
+/// A body that binds isn't refused.
+pub fn no_bound_body_is_refused()
+    ensures { NoBoundBodyIsRefused }
+{}
+
+/// A body is refused in one way at most, with one cause and at one place.
 pub fn one_body_refusal()
     ensures { OneBodyRefusal }
+{}
+
+/// No body is refused since the journal is full.
+pub fn history_refuses_no_body()
+    ensures { HistoryRefusesNoBody }
 {}
 
 /// A number of 64 bits has one text in decimal.

@@ -1,10 +1,11 @@
 -- From what a body means to what its moves are.
-use Rattle.std.proofs.Common.{◌≡◌, ℕ, ◌+◌, List, [], ◌∷◌, ◌++◌, length, map, Option, Some, None}
+use Rattle.std.proofs.Common.{◌≡◌, ℕ, ◌+◌, ◌<◌, List, [], ◌∷◌, ◌++◌, length, map, Option, Some, None}
 use Rattle.std.proofs.Common.{Result, Ok, Err, refl}
 use Rattle.std.proofs.Common.{sym, ap, subst, ◌∙◌, inl, inr, append_assoc, append-nil, arith}
 use Rattle.std.specs.Prelude.{IfOk, IfErr, OnOk}
 use Rattle.std.specs.List.{AllByRecursion}
 use Rattle.std.proofs.lemmas.List.{length_push}
+use Rattle.std.proofs.lemmas.Option.{same_Some}
 use Rattle.pj_value.specs.declared.value.Value.{Value}
 use Rattle.pj_value.specs.Rows.{KindedRows, HaveKinds}
 use Rattle.pj_parse.specs.declared.types.Statement.{Statement}
@@ -20,6 +21,7 @@ use Rattle.pj_journal.specs.declared.entry.What.TheVariants as whats
 use Rattle.pj_journal.specs.declared.entry.Entry.{Entry}
 use Rattle.pj_journal.specs.History.{catalog, table_rows}
 use Rattle.pj_journal.specs.Log.{Log, IsFull}
+use Rattle.pj_journal.specs.Moves.{moves_from}
 use Rattle.pj_bind.specs.declared.types.Bound.{Bound}
 use Rattle.pj_bind.specs.declared.types.Bound.TheVariants as bounds
 use Rattle.pj_bind.specs.declared.types.LimitName.TheVariants.{History}
@@ -32,12 +34,21 @@ use Rattle.pj_legal.specs.declared.reply.Reply.TheVariants as replies
 use Rattle.pj_expr.specs.Answers.{Answers}
 use Rattle.pj_bind.specs.Built.{IsBuilt}
 use Rattle.pj_bind.specs.Filling.{column_kinds, filled_row, FillsRow, FillColumns, filled_rows}
+use Rattle.pj_parse.specs.Lexemes.{Lexeme, lexemes}
+use Rattle.pj_parse.specs.GrammarStatements.{Line}
+use Rattle.pj_bind.specs.Tables.{table_of}
+use Rattle.pj_bind.specs.Laws.{BoundTablesFit}
 use Rattle.pj_bind.specs.Binding.{Asks, IsBound, IsRefusal}
 use Rattle.pj_bind.specs.Faults.{IsBindFault}
 use Rattle.pj_legal.specs.Binding.{BodyReads, BodyBinds, BodyIsRefused}
-use Rattle.pj_legal.specs.Legal.{Said, entry_of, BoundForm, Form, StopsAfter, IsFirstMove, IsBegun}
+use Rattle.pj_legal.specs.Laws.{HistoryRefusesNoBody}
+use Rattle.pj_legal.specs.Statements.{Said, whole}
+use Rattle.pj_legal.specs.Forms.{Course, entry_of, no_memory, history_full, BoundForm, Form, StopsAfter}
+use Rattle.pj_legal.specs.Forms.{MayStarve, MovesOn}
+use Rattle.pj_legal.specs.Full.{HasNext}
+use Rattle.pj_legal.specs.Run.{Ran, course}
 use Rattle.pj_server.specs.declared.server.By.{By}
-use Rattle.pj_server.specs.Moves.{said_by, Adds, BoundFits, BoundStops, BoundDone}
+use Rattle.pj_server.specs.Moves.{said_of, Adds, BoundFits, BoundStops, Fills, BoundDone}
 use Rattle.pj_server.specs.Moves.{Does, Serves, ChangesNothing, IsReadFault}
 use Rattle.pj_server.proofs.HistoryLemmas.{catalog-push, catalog_on-nothing}
 
@@ -65,25 +76,31 @@ asks_fits table select query asks = record {
   order_of_group = asks.groups.order;
 }
 
-bound_fits : (tables : List Table) (statement : Statement) (bound : Bound) → IsBound tables statement bound
-    → BoundFits tables bound
-bound_fits tables (statements.Create name columns projections key settings) bound (can, is) =
-    subst (BoundFits tables) (sym is) (can.room.unknown, can.room.tables_left)
-bound_fits tables (statements.Insert name columns rows) bound (place, table, at, named, fill, is) =
+bound_fits : BoundTablesFit → (ts : List Lexeme) (tables : List Table) (statement : Statement) (bound : Bound)
+    → Line ts statement → IsBound tables statement bound → BoundFits tables bound
+bound_fits fit ts tables (statements.Create name columns projections key settings) bound line (can, is) =
+    let table = table_of name columns key settings in
+    subst (BoundFits tables) (sym is) (
+      can.room.unknown,
+      can.room.tables_left,
+      fit ts (statements.Create name columns projections key settings) tables table line (can, refl),
+    )
+bound_fits fit ts tables (statements.Insert name columns rows) bound line (place, table, at, named, fill, is) =
     subst (BoundFits tables) (sym is) ((table, at.0, refl), filled_kinds table.columns columns rows fill)
-bound_fits tables (statements.Select select) bound (place, table, at, (query, asks, is)) =
+bound_fits fit ts tables (statements.Select select) bound line (place, table, at, (query, asks, is)) =
     subst (BoundFits tables) (sym is) (table, at.0, asks_fits table select query asks)
-bound_fits tables (statements.Explain select) bound h = absurd h
-bound_fits tables (statements.Delete name filter sets) bound h = absurd h
-bound_fits tables (statements.Alter name action sets) bound h = absurd h
-bound_fits tables (statements.Optimize name) bound h = absurd h
-bound_fits tables (statements.Set sets) bound h = absurd h
-bound_fits tables (statements.Merge name) bound h = absurd h
-bound_fits tables (statements.Mutate name) bound h = absurd h
+bound_fits fit ts tables (statements.Explain select) bound line h = absurd h
+bound_fits fit ts tables (statements.Delete name filter sets) bound line h = absurd h
+bound_fits fit ts tables (statements.Alter name action sets) bound line h = absurd h
+bound_fits fit ts tables (statements.Optimize name) bound line h = absurd h
+bound_fits fit ts tables (statements.Set sets) bound line h = absurd h
+bound_fits fit ts tables (statements.Merge name) bound line h = absurd h
+bound_fits fit ts tables (statements.Mutate name) bound line h = absurd h
 
-pub body_fits : (tables : List Table) (body : List ℕ) (bound : Bound) → BodyBinds tables body bound
-    → BoundFits tables bound
-body_fits tables body bound h = bound_fits tables h.0 bound h.3
+pub body_fits : BoundTablesFit → (tables : List Table) (body : List ℕ) (bound : Bound)
+    → BodyBinds tables body bound → BoundFits tables bound
+body_fits fit tables body bound h =
+    bound_fits fit (lexemes body h.1.tokens) tables h.0 bound h.1.line h.3
 
 -- what was read is bound, or refused, for the tables that the history leaves
 pub read_binds : (held tables : List Table) (body : List ℕ) (statement : Statement)
@@ -123,71 +140,156 @@ Serves-after a b c said reply none h =
     let same = entries-nil a b none in (
       h.0,
       Adds-trans a b c [] h.0 none h.1,
-      subst (λ es. Form a.limit es said h.0 reply) same
-          (subst (λ l. Form l b.entries said h.0 reply) none.limit h.2),
+      subst (λ es. Ran a.limit es said h.0 reply) same
+          (subst (λ l. Ran l b.entries said h.0 reply) none.limit h.2),
     )
 
-pub serves_no_memory : (a b : Log) (said : Said) → Adds a b []
-    → Serves a b said (replies.Refused refusals.NoMemory)
-serves_no_memory a b said none = ([], none, inr (inr (inl (refl, inl refl))))
+-- ---- statements that stop before their first move, or are refused by it
 
-pub serves_full : (a b : Log) (said : Said) → Adds a b [] → IsFull a
-    → Serves a b said (replies.Refused (refusals.Limit History))
-serves_full a b said none full = ([], none, inr (inr (inr (refl, inl refl, omega arith))))
+no_memory-full : no_memory ≡ history_full → ⊥
+no_memory-full same = cc
 
-pub serves_refusal : (a b : Log) (said : Said) (refusal : Refusal)
+-- no memory, though the journal has room
+pub serves_no_memory : (a b : Log) (said : Said) → Adds a b [] → (IsFull a → ⊥) → Serves a b said no_memory
+serves_no_memory a b said none room = (
+  [],
+  none,
+  record {
+    form = inr (inr (inl (record { stopped = inl refl; reply = refl })));
+    full = λ same. absurd (no_memory-full same);
+    told = λ full next. absurd (room (omega (arith, full)));
+  },
+)
+
+-- a journal with room isn't full
+pub below-full : (a : Log) → length a.entries < a.limit → IsFull a → ⊥
+below-full a below full = omega arith
+
+pub serves_full : (a b : Log) (said : Said) → Adds a b [] → IsFull a → Serves a b said history_full
+serves_full a b said none full = (
+  [],
+  none,
+  record {
+    form = inr (inr (inr (inl (record { stopped = inl refl; reply = refl }))));
+    full = λ same. omega (arith, full);
+    told = λ fills next. refl;
+  },
+)
+
+pub serves_refusal : HistoryRefusesNoBody → (a b : Log) (said : Said) (refusal : Refusal)
     → BodyIsRefused (catalog a.entries) said.body refusal → Adds a b (entry_of said whats.Refused ∷ [])
     → Serves a b said (replies.Refused refusal)
-serves_refusal a b said refusal refused adds =
-    (entry_of said whats.Refused ∷ [], adds, inl (refusal, refused, refl, refl))
+serves_refusal never a b said refusal refused adds = (
+  entry_of said whats.Refused ∷ [],
+  adds,
+  record {
+    form = inl (record {
+      place = a.entries;
+      refusal = refusal;
+      cause = refused;
+      moves = refl;
+      reply = refl;
+    });
+    full = λ same. absurd (never (catalog a.entries) said.body
+        (subst (BodyIsRefused (catalog a.entries) said.body) (is_limit refusal same) refused));
+    told = λ fills next. absurd next;
+  },
+)
+  where
+    is_limit : (r : Refusal) → replies.Refused r ≡ history_full → r ≡ refusals.Limit History
+    is_limit r same = cc
 
 -- ---- bound statements
 
 -- the moves don't tell the body
-same_form : (place : List Entry) (line session : ℕ) (one other : List ℕ) (bound : Bound) (added : List Entry)
-    (reply : Reply)
-    → BoundForm place (record { line = line; session = session; body = one }) bound added reply
-    → BoundForm place (record { line = line; session = session; body = other }) bound added reply
-same_form place line session one other (bounds.Create table) added reply h = h
-same_form place line session one other (bounds.Insert table rs) added reply h = h
-same_form place line session one other (bounds.Select table query) added reply h = h
+same_form : (place : List Entry) (line session : ℕ) (one other : List ℕ) (bound : Bound) (went : Course)
+    → BoundForm place (whole line session one) bound went → BoundForm place (whole line session other) bound went
+same_form place line session one other (bounds.Create table) went h = h
+same_form place line session one other (bounds.Insert table rs) went h = h
+same_form place line session one other (bounds.Select table query) went h = h
 
-stops_after : (may : Bound → What → Type 0) (place : List Entry) (said : Said) (bound : Bound)
-    (added : List Entry)
-    → BodyBinds (catalog place) said.body bound → BoundStops may said bound added
-    → StopsAfter may place said added
-stops_after may place said bound added binds (inl none) = inl none
-stops_after may place said bound added binds (inr one) = inr (bound, one.0, binds, one.1, one.2)
+stops_after : (sort : Bound → What → Type 0) (place : List Entry) (said : Said) (bound : Bound)
+    (added : List Entry) (reply : Reply)
+    → BodyBinds (catalog place) said.body bound → BoundStops sort said bound added
+    → StopsAfter sort said (course place added reply)
+stops_after sort place said bound added reply binds (inl none) = inl (ap (moves_from place) none)
+stops_after sort place said bound added reply binds (inr one) =
+    inr (place, bound, one.0, binds, one.1, ap (moves_from place) one.2)
 
 -- what a bound statement did is the form of its body
 form_of_bound : (old : Log) (by : By) (body : List ℕ) (bound : Bound) (added : List Entry) (reply : Reply)
-    → BodyBinds (catalog old.entries) body bound → BoundDone old (said_by by) bound added reply
-    → Form old.limit old.entries (record { line = by.line; session = by.session; body = body }) added reply
+    → BodyBinds (catalog old.entries) body bound → BoundDone old (said_of by) bound added reply
+    → Form (whole by.line by.session body) (course old.entries added reply)
 form_of_bound old by body bound added reply binds (inl done) =
-    inr (inl (bound, binds, same_form old.entries by.line by.session [] body bound added reply done))
+    inr (inl (record {
+      place = old.entries;
+      bound = bound;
+      binds = binds;
+      form = same_form old.entries by.line by.session [] body bound (course old.entries added reply) done;
+    }))
 form_of_bound old by body bound added reply binds (inr (inl early)) =
-    inr (inr (inl (
-      early.0,
-      stops_after IsFirstMove old.entries
-          (record { line = by.line; session = by.session; body = body }) bound added binds early.1,
-    )))
+    inr (inr (inl (record {
+      stopped =
+          stops_after MayStarve old.entries (whole by.line by.session body) bound added reply binds early.1;
+      reply = ap Some early.0;
+    })))
 form_of_bound old by body bound added reply binds (inr (inr early)) =
-    inr (inr (inr (
-      early.0,
-      stops_after IsBegun old.entries
-          (record { line = by.line; session = by.session; body = body }) bound added binds early.1,
-      early.2,
-    )))
+    inr (inr (inr (inl (record {
+      stopped =
+          stops_after MovesOn old.entries (whole by.line by.session body) bound added reply binds early.1;
+      reply = ap Some early.0;
+    }))))
+
+-- one that is done tells no full journal
+done_not_full : (place : List Entry) (said : Said) (bound : Bound) (added : List Entry) (reply : Reply)
+    → BoundForm place said bound (course place added reply) → reply ≡ history_full → ⊥
+done_not_full place said (bounds.Create table) added reply form same =
+    let is : reply ≡ replies.Done = same_Some _ _ form.1 in cc
+done_not_full place said (bounds.Insert table rs) added reply form same =
+    let is : reply ≡ replies.Done = same_Some _ _ form.3 in cc
+done_not_full place said (bounds.Select table query) added reply form same =
+    let is : reply ≡ replies.Rows form.0 = same_Some _ _ form.3 in cc
+
+-- and has no move to make
+done_no_next : (place : List Entry) (said : Said) (bound : Bound) (went : Course)
+    → BoundForm place said bound went → HasNext went.moves → ⊥
+done_no_next place said (bounds.Create table) went form next = subst HasNext form.0 next
+done_no_next place said (bounds.Insert table rs) went form next = subst HasNext form.2 next
+done_no_next place said (bounds.Select table query) went form next = subst HasNext form.2 next
+
+full_of_bound : (old : Log) (said : Said) (bound : Bound) (added : List Entry) (reply : Reply)
+    → BoundDone old said bound added reply → reply ≡ history_full → Fills old added
+full_of_bound old said bound added reply (inl done) same =
+    absurd (done_not_full old.entries said bound added reply done same)
+full_of_bound old said bound added reply (inr (inl early)) same =
+    absurd (no_memory-full (sym early.0 ∙ same))
+full_of_bound old said bound added reply (inr (inr early)) same = early.2
+
+told_of_bound : (old : Log) (said : Said) (bound : Bound) (added : List Entry) (reply : Reply)
+    → BoundDone old said bound added reply → Fills old added → HasNext (moves_from old.entries added)
+    → reply ≡ history_full
+told_of_bound old said bound added reply (inl done) fills next =
+    absurd (done_no_next old.entries said bound (course old.entries added reply) done next)
+told_of_bound old said bound added reply (inr (inl early)) fills next = absurd (early.2 fills next)
+told_of_bound old said bound added reply (inr (inr early)) fills next = early.0
 
 pub serves_bound : (old new : Log) (by : By) (body : List ℕ) (bound : Bound) (reply : Reply)
-    → BodyBinds (catalog old.entries) body bound → Does old new (said_by by) bound reply
-    → Serves old new (record { line = by.line; session = by.session; body = body }) reply
-serves_bound old new by body bound reply binds does =
-    (does.0, does.1, form_of_bound old by body bound does.0 reply binds does.2)
+    → BodyBinds (catalog old.entries) body bound → Does old new (said_of by) bound reply
+    → Serves old new (whole by.line by.session body) reply
+serves_bound old new by body bound reply binds does = (
+  does.0,
+  does.1,
+  record {
+    form = form_of_bound old by body bound does.0 reply binds does.2;
+    full = full_of_bound old (said_of by) bound does.0 reply does.2;
+    told = told_of_bound old (said_of by) bound does.0 reply does.2;
+  },
+)
 
-pub does_no_memory : (a b : Log) (said : Said) (bound : Bound) → Adds a b []
-    → Does a b said bound (replies.Refused refusals.NoMemory)
-does_no_memory a b said bound none = ([], none, inr (inl (refl, inl refl)))
+pub does_no_memory : (a b : Log) (said : Said) (bound : Bound) → length a.entries < a.limit → Adds a b []
+    → Does a b said bound no_memory
+does_no_memory a b said bound below none =
+    ([], none, inr (inl (refl, inl refl, λ fills next. omega (arith, fills, below))))
 
 pub does_create : (a b : Log) (said : Said) (table : Table)
     → Adds a b (entry_of said (whats.Created table) ∷ []) → Does a b said (bounds.Create table) replies.Done
@@ -199,28 +301,26 @@ module _ (a b c : Log) (said : Said) (table : ℕ) (rs : KindedRows)
   began : Adds a c (entry_of said (whats.Begun table) ∷ [])
   began = Adds-trans a b c (entry_of said (whats.Begun table) ∷ []) [] begun room
 
-  pub insert_full : IsFull b
-      → Does a c said (bounds.Insert table rs) (replies.Refused (refusals.Limit History))
-  insert_full full =
-      let long : length a.entries + 1 ≡ a.limit =
-      omega (
-        arith,
-        ap length begun.grown,
-        length_push a.entries (entry_of said (whats.Begun table)),
-        full,
-        begun.limit,
-      ) in (
-        entry_of said (whats.Begun table) ∷ [],
-        began,
-        inr (inr (refl, inr (whats.Begun table, refl, refl), long)),
-      )
+  -- how long the journal is once it began
+  long : length b.entries ≡ length a.entries + 1
+  long = ap length begun.grown ∙ length_push a.entries (entry_of said (whats.Begun table))
 
-  pub insert_stops : (d : Log) → Adds c d []
-      → Does a d said (bounds.Insert table rs) (replies.Refused refusals.NoMemory)
-  insert_stops d none = (
+  pub insert_full : IsFull b → Does a c said (bounds.Insert table rs) history_full
+  insert_full full = (
+    entry_of said (whats.Begun table) ∷ [],
+    began,
+    inr (inr (refl, inr (whats.Begun table, refl, refl), omega (arith, long, full, begun.limit))),
+  )
+
+  pub insert_stops : (IsFull b → ⊥) → (d : Log) → Adds c d [] → Does a d said (bounds.Insert table rs) no_memory
+  insert_stops room_left d none = (
     entry_of said (whats.Begun table) ∷ [],
     Adds-trans a c d _ [] began none,
-    inr (inl (refl, inr (whats.Begun table, refl, refl))),
+    inr (inl (
+      refl,
+      inr (whats.Begun table, refl, refl),
+      (λ fills next. room_left (omega (arith, long, fills, begun.limit))),
+    )),
   )
 
   pub insert_commits : (d : Log) (block : ℕ) → Adds c d (entry_of said (whats.Inserted table block rs) ∷ [])
@@ -228,7 +328,7 @@ module _ (a b c : Log) (said : Said) (table : ℕ) (rs : KindedRows)
   insert_commits d block adds = (
     entry_of said (whats.Begun table) ∷ entry_of said (whats.Inserted table block rs) ∷ [],
     Adds-trans a c d _ _ began adds,
-    inl (block, refl, refl),
+    inl (a.entries ++ entry_of said (whats.Begun table) ∷ [], block, refl, refl),
   )
 
 -- the tables are as before once an INSERT began and room was made

@@ -18,10 +18,12 @@ use Rattle.pj_journal.specs.declared.entry.Entry.{Entry}
 use Rattle.pj_journal.specs.History.{IsRegular}
 use Rattle.pj_journal.specs.Log.{Log, empty_log}
 use Rattle.pj_legal.specs.declared.reply.Reply.{Reply}
-use Rattle.pj_legal.specs.Legal.{Said, body_of, statement_of, statements, Form}
-use Rattle.pj_legal.specs.Run.{LinesRise, RunsAreLegal, cut}
-use Rattle.pj_legal.specs.Laws.{CutRunsAreLegal, RunGoesOn, RunIsAsLong, TextsGoOn}
-use Rattle.pj_legal.specs.Texts.{as_line, name_at, reply_text, texts_of, entries_text, history_text}
+use Rattle.pj_legal.specs.Statements.{Said, whole, body_of, statement_of, statements, Shown}
+use Rattle.pj_legal.specs.Shares.{Rise}
+use Rattle.pj_legal.specs.Run.{Ran, shown_at, cut}
+use Rattle.pj_legal.specs.Laws.{lines_said, AreNamed, RunsAreLegal, CutRunsAreLegal, RunGoesOn, TextsGoOn}
+use Rattle.pj_legal.specs.Texts.{as_line, name_at, reply_text, shown_text, replies_text, entries_text}
+use Rattle.pj_legal.specs.Texts.{history_text}
 use Rattle.pj_server.specs.declared.end.End.{End}
 use Rattle.pj_server.specs.declared.end.End.TheVariants.{Usage, SourceFailed, TooLarge, BadLine}
 use Rattle.pj_server.specs.declared.end.End.TheVariants.{SinkFailed, NoMemory, Finished}
@@ -29,10 +31,6 @@ use Rattle.pj_server.specs.Moves.{Serves}
 use Rattle.pj_server.specs.RunLines.{Writes, RunsLine, RunsLines}
 use Rattle.pj_server.specs.Ends.{TellsLine, WholeScript, PartScript, ScriptEnds, FinishesSo}
 use Rattle.pj_server.specs.Played.{history_entries, IsRead, bad_line_text, RunsSo, EndsSo}
-
--- the statement of a line with this body
-abbrev said : ScriptLine → List ℕ → Said
-said line body = record { line = line.line; session = line.name; body = body }
 
 -- ---- proper prefixes of a text
 
@@ -95,12 +93,12 @@ pub RunsLines-none : (log : Log) (names : List (List ℕ)) (lines : List ScriptL
     → RunsLines Finished 0 log log names lines a a
 RunsLines-none log names lines a = record { replies = []; run = refl; limit = refl; written = Appends-nil a }
 
-pub RunsLines-more : RunGoesOn → RunIsAsLong → TextsGoOn
+pub RunsLines-more : RunGoesOn → TextsGoOn
     → (end : End) (i : ℕ) (old mid new : Log) (names : List (List ℕ)) (lines : List ScriptLine)
     (line : ScriptLine) (a b c : Option (List ℕ))
     → i < length lines → line ≡ get_or lines i line → RunsLines Finished i old mid names lines a b
     → RunsLine end mid new names (statement_of line) b c → RunsLines end (i + 1) old new names lines a c
-RunsLines-more goes_on as_long texts end i old mid new names lines line a b c lt at so_far one =
+RunsLines-more goes_on texts end i old mid new names lines line a b c lt at so_far one =
     let said = statement_of line in
     let saids = take i (map statement_of lines) in
     let more : take (i + 1) (map statement_of lines) ≡ saids ++ said ∷ [] =
@@ -108,55 +106,53 @@ RunsLines-more goes_on as_long texts end i old mid new names lines line a b c lt
     ∙ ap (λ l. map statement_of (take i lines) ++ statement_of l ∷ []) (sym at)
     ∙ ap (λ xs. xs ++ said ∷ []) (sym (take-map statement_of i lines)) in
     let added = one.serves.0 in
-    let form : Form old.limit mid.entries said added one.reply =
-    subst (λ l. Form l mid.entries said added one.reply) so_far.limit one.serves.2 in
+    let ran : Ran old.limit mid.entries said added one.reply =
+    subst (λ l. Ran l mid.entries said added one.reply) so_far.limit one.serves.2 in
     let run =
-    goes_on old.limit old.entries saids so_far.replies mid.entries said added one.reply so_far.run form in
-    let long = as_long old.limit old.entries saids so_far.replies mid.entries so_far.run in
+    goes_on old.limit old.entries saids so_far.replies mid.entries said added one.reply so_far.run ran in
+    let shown : Shown = shown_at said one.reply in
     let text =
-    Writes-after end a b c (texts_of names saids so_far.replies)
-    (reply_text said.line (name_at names said.session) one.reply) so_far.written one.written in
+    Writes-after end a b c (replies_text names so_far.replies) (shown_text names shown) so_far.written
+    one.written in
     record {
-      replies = so_far.replies ++ one.reply ∷ [];
+      replies = so_far.replies ++ shown ∷ [];
       run = rw (more, one.serves.1.grown) run;
       limit = one.serves.1.limit ∙ so_far.limit;
-      written = rw (more, texts names saids so_far.replies said one.reply long) text;
+      written = rw (texts names so_far.replies shown) text;
     }
 
 -- ---- a whole script
 
 pub lines_rise : (low : ℕ) (lines : List ScriptLine) → RisesFrom low lines
-    → LinesRise low (map statement_of lines)
+    → Rise low (lines_said (map statement_of lines))
 lines_rise low [] h = tt
 lines_rise low (line ∷ lines) h = (h.0, lines_rise line.line lines h.1)
 
-module _ (whole : RunsAreLegal) (parts : CutRunsAreLegal) (limit : ℕ) (wanted : Bool) (script : Script)
-    (log : Log) (rise : LinesRise 0 (statements script)) (regular : IsRegular log.entries)
-    (few : length log.entries ≤ log.limit) where
+module _ (runs : RunsAreLegal) (parts : CutRunsAreLegal) (limit : ℕ) (wanted : Bool) (script : Script)
+    (log : Log) (rise : Rise 0 (lines_said (statements script))) (named : AreNamed script)
+    (regular : IsRegular log.entries) (few : length log.entries ≤ log.limit) where
   -- the history's text where some first lines are all
   abbrev tail : ℕ → List ℕ
   tail count = cond (wanted && nat_le (length script.lines) count) (history_text script.names log.entries) []
 
   part_of : (end : End) (count : ℕ) (a b : Option (List ℕ))
       (r : RunsLines end count (empty_log limit) log script.names script.lines a b) (c : Option (List ℕ))
-      → AppendsPart a c (texts_of script.names (take count (statements script)) r.replies ++ tail count)
+      → AppendsPart a c (replies_text script.names r.replies ++ tail count)
       → PartScript limit wanted script log.entries a c
   part_of end count a b r c text =
-      let same : statements (cut count script) ≡ take count (statements script) =
-      sym (take-map statement_of count script.lines) in
+      let legal =
+      parts limit count script r.replies log.entries rise named r.run regular (omega (arith, few, r.limit)) in
       record {
         lines = count;
         replies = r.replies;
-        legal =
-            parts limit count script r.replies log.entries rise r.run regular (omega (arith, few, r.limit));
-        written =
-            subst (λ saids. AppendsPart a c (texts_of script.names saids r.replies ++ tail count))
-            (sym same) text;
+        played = legal.0;
+        kept = legal.1;
+        written = text;
       }
 
   stopped : (end : End) (count : ℕ) (a b : Option (List ℕ))
       (r : RunsLines end count (empty_log limit) log script.names script.lines a b)
-      → AppendsPart a b (texts_of script.names (take count (statements script)) r.replies)
+      → AppendsPart a b (replies_text script.names r.replies)
       → PartScript limit wanted script log.entries a b
   stopped end count a b r text = part_of end count a b r b (AppendsPart-longer a b _ (tail count) text)
 
@@ -169,11 +165,13 @@ module _ (whole : RunsAreLegal) (parts : CutRunsAreLegal) (limit : ℕ) (wanted 
       let same : take count (statements script) ≡ statements script =
       take_all count (statements script) (omega (arith, length-map script.lines statement_of)) in
       let run = rw same at r.run in
-      let replies = rw same at r.written in
+      let legal =
+      runs limit script r.replies log.entries rise named run regular (omega (arith, few, r.limit)) in
       record {
         replies = r.replies;
-        legal = whole limit script r.replies log.entries rise run regular (omega (arith, few, r.limit));
-        written = Appends-trans a b c _ _ replies text;
+        played = legal.0;
+        kept = legal.1;
+        written = Appends-trans a b c _ _ r.written text;
       }
 
   tail_is : (count : ℕ) → count ≡ length script.lines → wanted ≡ true
@@ -246,14 +244,15 @@ pub runs_script : (end : End) (limit : ℕ) (wanted : Bool) (bytes : List ℕ) (
     → IsScript Play bytes script
     → ScriptEnds end limit wanted script h a b → RunsSo end limit wanted bytes h a b
 runs_script Finished limit wanted bytes script h a b spelled e =
-    record { script = script; spelled = spelled; replies = e.replies; legal = e.legal; written = e.written }
+    record { script = script; spelled = spelled; replies = e.replies; played = e.played; kept = e.kept; written = e.written }
 runs_script SinkFailed limit wanted bytes script h a b spelled e =
     inr (record {
       script = script;
       spelled = spelled;
       lines = e.lines;
       replies = e.replies;
-      legal = e.legal;
+      played = e.played;
+      kept = e.kept;
       written = e.written;
     })
 runs_script NoMemory limit wanted bytes script h a b spelled e =
@@ -262,7 +261,8 @@ runs_script NoMemory limit wanted bytes script h a b spelled e =
       spelled = spelled;
       lines = e.lines;
       replies = e.replies;
-      legal = e.legal;
+      played = e.played;
+      kept = e.kept;
       written = e.written;
     }))
 runs_script BadLine limit wanted bytes script h a b spelled e = absurd e
@@ -313,13 +313,13 @@ ends_read TooLarge wish wanted bytes left rest h a b wished read run = absurd ru
 pub runs_line : (end : End) (old new : Log) (names : List (List ℕ)) (line : ScriptLine)
     (body name text : List ℕ) (reply : Reply) (a b : Option (List ℕ))
     → body ≡ body_of line.act
-    → Serves old new (record { line = line.line; session = line.name; body = body }) reply
+    → Serves old new (whole line.line line.name body) reply
     → text ≡ reply_text line.line name reply → name_at names line.name ≡ name → Writes end a b text
     → RunsLine end old new names (statement_of line) a b
 runs_line end old new names line body name text reply a b act serves is named written =
-    let whole : said line body ≡ statement_of line = ap (said line) act in
+    let same : whole line.line line.name body ≡ statement_of line = ap (whole line.line line.name) act in
     record {
       reply = reply;
-      serves = subst (λ s. Serves old new s reply) whole serves;
+      serves = subst (λ s. Serves old new s reply) same serves;
       written = subst (Writes end a b) (is ∙ ap (λ n. reply_text line.line n reply) (sym named)) written;
     }

@@ -4,8 +4,9 @@ use Rattle.std.specs.Io.KnownBytes.{Appends}
 use Rattle.pj_io.specs.Transfers.{AppendsPart}
 use Rattle.pj_parse.specs.declared.types.Script.{Script}
 use Rattle.pj_journal.specs.declared.entry.Entry.{Entry}
-use Rattle.pj_legal.specs.declared.reply.Reply.{Reply}
-use Rattle.pj_legal.specs.Legal.{IsLegal}
+use Rattle.pj_legal.specs.Statements.{Shown}
+use Rattle.pj_legal.specs.Legal.{IsPlayed}
+use Rattle.pj_legal.specs.Full.{KeepsLimit}
 use Rattle.pj_legal.specs.Run.{cut}
 use Rattle.pj_server.specs.declared.end.End.{End}
 use Rattle.pj_server.specs.declared.end.End.TheVariants as ends
@@ -25,16 +26,18 @@ TellsLine ends.TooLarge line before after = ⊥
 -- the whole script was played
 pub record WholeScript (limit : ℕ) (wanted : Bool) (script : Script) (h : List Entry)
     (before after : Option (List ℕ)) : Type 0 where
-  pub replies : List Reply
-  pub legal : IsLegal limit script h replies
+  pub replies : List Shown
+  pub played : IsPlayed script h replies
+  pub kept : KeepsLimit limit script h replies
   pub written : Appends before after (output wanted script h replies)
 
 -- some of its lines were
 pub record PartScript (limit : ℕ) (wanted : Bool) (script : Script) (h : List Entry)
     (before after : Option (List ℕ)) : Type 0 where
   pub lines : ℕ
-  pub replies : List Reply
-  pub legal : IsLegal limit (cut lines script) h replies
+  pub replies : List Shown
+  pub played : IsPlayed (cut lines script) h replies
+  pub kept : KeepsLimit limit (cut lines script) h replies
   pub written : AppendsPart before after (output_of_part lines wanted script h replies)
 
 -- a script was played whole, or in part

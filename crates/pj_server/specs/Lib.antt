@@ -5,8 +5,12 @@ pub mod Played
 pub mod Status
 pub mod RunLines
 pub mod Ends
+pub use Rattle.pj_legal.specs.Forms
+pub use Rattle.pj_legal.specs.Full
 pub use Rattle.pj_legal.specs.Legal
 pub use Rattle.pj_legal.specs.Run
+pub use Rattle.pj_legal.specs.Shares
+pub use Rattle.pj_legal.specs.Statements
 pub use Rattle.pj_legal.specs.Texts
 pub use Rattle.pj_journal.specs.History
 pub use Rattle.pj_journal.specs.Log

@@ -5,25 +5,26 @@ use Rattle.pj_expr.specs.declared.table.Table.{Table}
 use Rattle.pj_journal.specs.declared.entry.What.{What}
 use Rattle.pj_journal.specs.declared.entry.What.TheVariants as whats
 use Rattle.pj_journal.specs.declared.entry.Entry.{Entry}
-use Rattle.pj_expr.specs.Tables.{kinds_of}
+use Rattle.pj_expr.specs.Tables.{kinds_of, TableFits}
 use Rattle.pj_expr.specs.Fits.{FitsQuery}
 use Rattle.pj_journal.specs.Log.{Log}
+use Rattle.pj_journal.specs.Moves.{moves_from}
 use Rattle.pj_bind.specs.declared.types.Bound.{Bound}
 use Rattle.pj_bind.specs.declared.types.Bound.TheVariants as bounds
-use Rattle.pj_bind.specs.declared.types.LimitName.TheVariants.{History}
-use Rattle.pj_bind.specs.declared.types.Refusal.TheVariants as refusals
 use Rattle.pj_legal.specs.declared.reply.Reply.{Reply}
-use Rattle.pj_legal.specs.declared.reply.Reply.TheVariants as replies
 use Rattle.pj_bind.specs.declared.binding.BindFault.{BindFault}
 use Rattle.pj_bind.specs.declared.binding.BindFault.TheVariants as faults
 use Rattle.pj_bind.specs.Binding.{IsUnknown}
 use Rattle.pj_legal.specs.Binding.{BodyIsRefused}
-use Rattle.pj_legal.specs.Legal.{Said, entry_of, BoundForm, Form, IsFirstMove, IsBegun}
+use Rattle.pj_legal.specs.Statements.{Said, whole}
+use Rattle.pj_legal.specs.Forms.{entry_of, BoundForm, MayStarve, MovesOn, no_memory, history_full}
+use Rattle.pj_legal.specs.Full.{HasNext}
+use Rattle.pj_legal.specs.Run.{Ran, course}
 use Rattle.pj_server.specs.declared.server.By.{By}
 
 -- the statement of a session and a line, its body aside
-abbrev pub said_by : By → Said
-said_by by = record { line = by.line; session = by.session; body = [] }
+abbrev pub said_of : By → Said
+said_of by = whole by.line by.session []
 
 -- these moves were added to the journal, whose limit stays
 pub record Adds (old new : Log) (added : List Entry) : Type 0 where
@@ -33,29 +34,35 @@ pub record Adds (old new : Log) (added : List Entry) : Type 0 where
 -- the statement made its moves and got its reply
 abbrev pub Serves : Log → Log → Said → Reply → Type 0
 Serves old new said reply =
-    (added : List Entry) × Adds old new added × Form old.limit old.entries said added reply
+    (added : List Entry) × Adds old new added × Ran old.limit old.entries said added reply
 
 -- the bound statement fits these tables
 abbrev pub BoundFits : List Table → Bound → Type 0
-BoundFits tables (bounds.Create table) = IsUnknown tables table.name × (length tables < 64)
+BoundFits tables (bounds.Create table) =
+    IsUnknown tables table.name × (length tables < 64) × TableFits table
 BoundFits tables (bounds.Insert place rows) =
     ((table : Table) × (slice_get tables place ≡ Some table) × (rows.kinds ≡ kinds_of table))
     × HaveKinds rows.kinds rows.rows
 BoundFits tables (bounds.Select place query) =
     (table : Table) × (slice_get tables place ≡ Some table) × FitsQuery (kinds_of table) query
 
--- no move, or the one that the bound statement may stop after
+-- no move, or a first one of this sort
 abbrev pub BoundStops : (Bound → What → Type 0) → Said → Bound → List Entry → Type 0
-BoundStops may said bound added =
-    (added ≡ []) ⊎ ((what : What) × may bound what × (added ≡ entry_of said what ∷ []))
+BoundStops sort said bound added =
+    (added ≡ []) ⊎ ((what : What) × sort bound what × (added ≡ entry_of said what ∷ []))
 
--- the bound statement made its moves, or ended early
+-- these entries fill the journal
+abbrev pub Fills : Log → List Entry → Type 0
+Fills old added = length old.entries + length added ≡ old.limit
+
+-- the bound statement made its moves, or stopped early: there was no memory, and the journal had room for a
+-- further move; or the journal was full
 abbrev pub BoundDone : Log → Said → Bound → List Entry → Reply → Type 0
 BoundDone old said bound added reply =
-    BoundForm old.entries said bound added reply
-    ⊎ ((reply ≡ replies.Refused refusals.NoMemory) × BoundStops IsFirstMove said bound added)
-    ⊎ ((reply ≡ replies.Refused (refusals.Limit History)) × BoundStops IsBegun said bound added
-    × (length old.entries + length added ≡ old.limit))
+    BoundForm old.entries said bound (course old.entries added reply)
+    ⊎ ((reply ≡ no_memory) × BoundStops MayStarve said bound added
+    × (Fills old added → HasNext (moves_from old.entries added) → ⊥))
+    ⊎ ((reply ≡ history_full) × BoundStops MovesOn said bound added × Fills old added)
 
 -- a bound statement was done
 abbrev pub Does : Log → Log → Said → Bound → Reply → Type 0

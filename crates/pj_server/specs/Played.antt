@@ -8,8 +8,9 @@ use Rattle.pj_parse.specs.declared.types.ScriptMode.TheVariants.{Play}
 use Rattle.pj_parse.specs.declared.types.Script.{Script}
 use Rattle.pj_parse.specs.Lines.{IsScript, IsBadLine}
 use Rattle.pj_journal.specs.declared.entry.Entry.{Entry}
-use Rattle.pj_legal.specs.declared.reply.Reply.{Reply}
-use Rattle.pj_legal.specs.Legal.{IsLegal}
+use Rattle.pj_legal.specs.Statements.{Shown}
+use Rattle.pj_legal.specs.Legal.{IsPlayed}
+use Rattle.pj_legal.specs.Full.{KeepsLimit}
 use Rattle.pj_legal.specs.Run.{cut}
 use Rattle.pj_legal.specs.Texts.{as_line, replies_text, history_text}
 use Rattle.pj_server.specs.declared.end.End.{End}
@@ -53,33 +54,36 @@ pub record TellsPart (bytes : List ℕ) (h : List Entry) (before after : Option 
   pub written : AppendsPart before after (bad_line_text line)
 
 -- what is written for a script: its replies, and the history's text where it is wanted
-abbrev pub output : Bool → Script → List Entry → List Reply → List ℕ
+abbrev pub output : Bool → Script → List Entry → List Shown → List ℕ
 output wanted script h replies =
-    replies_text script replies ++ (if wanted then history_text script.names h else [])
+    replies_text script.names replies ++ (if wanted then history_text script.names h else [])
 
 -- what is written for the first lines: the history's text stands behind the last line alone
-abbrev pub output_of_part : ℕ → Bool → Script → List Entry → List Reply → List ℕ
+abbrev pub output_of_part : ℕ → Bool → Script → List Entry → List Shown → List ℕ
 output_of_part lines wanted script h replies =
     output (wanted && nat_le (length script.lines) lines) (cut lines script) h replies
 
--- the bytes spell a script, the history is legal for it with these replies, and their text was written
+-- the bytes spell a script, the history is legal for it with these replies, as a single thread leaves it, each
+-- tells a full journal where it was full, and their text was written
 pub record PlaysScript (limit : ℕ) (wanted : Bool) (bytes : List ℕ) (h : List Entry)
     (before after : Option (List ℕ)) : Type 0 where
   pub script : Script
   pub spelled : IsScript Play bytes script
-  pub replies : List Reply
-  pub legal : IsLegal limit script h replies
+  pub replies : List Shown
+  pub played : IsPlayed script h replies
+  pub kept : KeepsLimit limit script h replies
   pub written : Appends before after (output wanted script h replies)
 
--- the bytes spell a script, the history is legal for it cut after some lines, and a proper prefix of the text
--- of that was written
+-- the bytes spell a script, the same holds of it cut after some lines, and a proper prefix of the text of that
+-- was written
 pub record PlaysPart (limit : ℕ) (wanted : Bool) (bytes : List ℕ) (h : List Entry)
     (before after : Option (List ℕ)) : Type 0 where
   pub script : Script
   pub spelled : IsScript Play bytes script
   pub lines : ℕ
-  pub replies : List Reply
-  pub legal : IsLegal limit (cut lines script) h replies
+  pub replies : List Shown
+  pub played : IsPlayed (cut lines script) h replies
+  pub kept : KeepsLimit limit (cut lines script) h replies
   pub written : AppendsPart before after (output_of_part lines wanted script h replies)
 
 -- what holds of the bytes, the history and what was written, by how the run of the bytes ended

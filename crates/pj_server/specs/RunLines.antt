@@ -5,9 +5,9 @@ use Rattle.pj_io.specs.Transfers.{AppendsPart}
 use Rattle.pj_parse.specs.declared.types.ScriptLine.{ScriptLine}
 use Rattle.pj_journal.specs.Log.{Log}
 use Rattle.pj_legal.specs.declared.reply.Reply.{Reply}
-use Rattle.pj_legal.specs.Legal.{Said, statement_of}
-use Rattle.pj_legal.specs.Run.{Run}
-use Rattle.pj_legal.specs.Texts.{name_at, reply_text, texts_of}
+use Rattle.pj_legal.specs.Statements.{Said, statement_of, Shown}
+use Rattle.pj_legal.specs.Run.{Run, shown_at}
+use Rattle.pj_legal.specs.Texts.{shown_text, replies_text}
 use Rattle.pj_server.specs.declared.end.End.{End}
 use Rattle.pj_server.specs.declared.end.End.TheVariants as ends
 use Rattle.pj_server.specs.Moves.{Serves}
@@ -27,12 +27,12 @@ pub record RunsLine (end : End) (old new : Log) (names : List (List ℕ)) (said 
     (before after : Option (List ℕ)) : Type 0 where
   pub reply : Reply
   pub serves : Serves old new said reply
-  pub written : Writes end before after (reply_text said.line (name_at names said.session) reply)
+  pub written : Writes end before after (shown_text names (shown_at said reply))
 
 -- the first lines were run, and their replies were written
 pub record RunsLines (end : End) (count : ℕ) (old new : Log) (names : List (List ℕ)) (lines : List ScriptLine)
     (before after : Option (List ℕ)) : Type 0 where
-  pub replies : List Reply
+  pub replies : List Shown
   pub run : Run old.limit old.entries (take count (map statement_of lines)) replies new.entries
   pub limit : new.limit ≡ old.limit
-  pub written : Writes end before after (texts_of names (take count (map statement_of lines)) replies)
+  pub written : Writes end before after (replies_text names replies)

@@ -2,13 +2,13 @@
 ghost use Rattle.std.specs.Prelude.{◌≡◌, ◌<◌, ◌≤◌, ℕ, length};
 ghost use Rattle.std.specs.List.{AllByRecursion};
 ghost use Rattle.pj_io.specs.Faults.{Rose};
-ghost use Rattle.pj_legal.specs.Legal.{statement_of, body_of as body_of_act};
+ghost use Rattle.pj_legal.specs.Statements.{statement_of, body_of as body_of_act};
 ghost use Rattle.pj_server.specs.RunLines.{Writes, RunsLine, RunsLines};
 
 use crate::end::End;
 use crate::server::{By, Server};
 use pj_io::{GiveFault, Sink, write_all};
-use pj_legal::{reply_text, run_goes_on, run_is_as_long, texts_go_on};
+use pj_legal::{reply_text, run_goes_on, texts_go_on};
 use pj_parse::types::{Act, ScriptLine};
 use pj_value::Text;
 use std::alloc::Global;
@@ -80,7 +80,6 @@ pub(crate) fn run_lines<W: Sink>(
     ensures calm { (result ≡ End.SinkFailed → ⊥) → W.faults sink.new ≡ W.faults sink.old }
 {
     run_goes_on();
-    run_is_as_long();
     texts_go_on();
     'lines: for line in lines {
         match run_line(alloc, server, names, line, sink) {

@@ -9,8 +9,9 @@ ghost use Rattle.pj_io.specs.Transfers.{TookTooMuch, TookAtMost};
 ghost use Rattle.pj_parse.specs.declared.types.ScriptMode.TheVariants.{Play};
 ghost use Rattle.pj_parse.specs.declared.types.Script.{Script};
 ghost use Rattle.pj_parse.specs.Lines.{IsScript, IsBadLine};
-ghost use Rattle.pj_legal.specs.Legal.{statements};
-ghost use Rattle.pj_legal.specs.Run.{LinesRise};
+ghost use Rattle.pj_legal.specs.Statements.{statements};
+ghost use Rattle.pj_legal.specs.Shares.{Rise};
+ghost use Rattle.pj_legal.specs.Laws.{lines_said};
 ghost use Rattle.pj_legal.specs.Texts.{history_text as text_of_history};
 ghost use Rattle.pj_words.specs.Words.{wish_of};
 ghost use Rattle.pj_server.specs.Played.{script_bytes, history_entries, DoesNothing};
@@ -254,7 +255,7 @@ fn play_script<W: Sink>(
     script: &Script,
     sink: &mut W,
 ) -> Played
-    requires rise { LinesRise 0 (statements script.now) }
+    requires rise { Rise 0 (lines_said (statements script.now)) }
     requires named { AllByRecursion (λ line. line.name < length script.now.names) script.now.lines }
     ensures ends { ScriptEnds result.end limit wanted script.now result.history.entries (W.taken sink.old)
         (W.taken sink.new) }

@@ -3,19 +3,21 @@ ghost use Rattle.std.specs.Prelude.{◌≡◌, ◌<◌, ◌≤◌, ◌↔◌, Li
 ghost use Rattle.pj_value.specs.Rows.{HaveKinds};
 ghost use Rattle.pj_expr.specs.declared.table.Table.{Table};
 ghost use Rattle.pj_journal.specs.History.{catalog, IsRegular, WhatFits};
-ghost use Rattle.pj_expr.specs.Tables.{kinds_of};
+ghost use Rattle.pj_expr.specs.Tables.{kinds_of, TableFits};
 ghost use Rattle.pj_journal.specs.Log.{empty_log, IsFull};
 ghost use Rattle.pj_bind.specs.Binding.{IsUnknown};
 ghost use Rattle.pj_legal.specs.Binding.{BodyBinds};
-ghost use Rattle.pj_legal.specs.Legal.{entry_of};
+ghost use Rattle.pj_legal.specs.Statements.{whole};
+ghost use Rattle.pj_legal.specs.Forms.{entry_of};
 
 use crate::store::{Store, append};
+use pj_bind::bound_tables_fit;
 use pj_exec::select;
 use pj_expr::{Query, Table};
 use pj_journal::types::Catalog;
 use pj_journal::{Actor, Entry, Journal, MoveFault, What};
 use pj_legal::types::{Bound, LimitName, Refusal};
-use pj_legal::{BindFault, Parsed, Reply, bind, read_statement};
+use pj_legal::{BindFault, Parsed, Reply, bind, history_refuses_no_body, read_statement};
 use pj_value::{NoMemory, Rows};
 use std::alloc::Global;
 use std::marker::Model;
@@ -49,7 +51,7 @@ impl Model for Server {
 
 impl Server {
     ghost use Rattle.pj_server.specs.Moves.{
-      said_by,
+      said_of,
       Adds,
       Serves,
       BoundFits,
@@ -96,8 +98,7 @@ impl Server {
 
     /// Runs the statement of a session's line, from its first move to its reply.
     pub(crate) fn statement(&mut self, alloc: Global, by: By, body: &[u8]) -> Reply
-        ensures { Serves self.old self.new
-            (record { line = by.line; session = by.session; body = body.now }) result }
+        ensures { Serves self.old self.new (whole by.line by.session body.now) result }
     {
         match self.reserve() {
             Ok(()) => self.first_move(alloc, by, body),
@@ -109,6 +110,7 @@ impl Server {
     /// Makes room in the journal for one move.
     fn reserve(&mut self) -> Result<(), MoveFault>
         ensures room { OnOk result (1 ≤ self.new.spare) }
+        ensures below { OnOk result (length self.new.entries < self.new.limit) }
         ensures full { (result ≡ Err MoveFault.Full) ↔ IsFull self.old }
         ensures same { Adds self.old self.new [] }
     {
@@ -116,10 +118,12 @@ impl Server {
     }
 
     fn first_move(&mut self, alloc: Global, by: By, body: &[u8]) -> Reply
-        requires { 1 ≤ self.old.spare }
-        ensures { Serves self.old self.new
-            (record { line = by.line; session = by.session; body = body.now }) result }
+        requires room { 1 ≤ self.old.spare }
+        requires below { length self.old.entries < self.old.limit }
+        ensures { Serves self.old self.new (whole by.line by.session body.now) result }
     {
+        bound_tables_fit();
+        history_refuses_no_body();
         match self.read(alloc, body) {
             Ok(bound) => self.run_bound(alloc, by, bound),
             Err(BindFault::Refused(refusal)) => {
@@ -144,8 +148,9 @@ impl Server {
 
     fn run_bound(&mut self, alloc: Global, by: By, bound: Bound) -> Reply
         requires room { 1 ≤ self.old.spare }
+        requires below { length self.old.entries < self.old.limit }
         requires fits { BoundFits (catalog self.old.entries) bound }
-        ensures { Does self.old self.new (said_by by) bound result }
+        ensures { Does self.old self.new (said_of by) bound result }
     {
         match bound {
             Bound::Create(table) => match self.create(alloc, by, table) {
@@ -162,7 +167,7 @@ impl Server {
         requires room { 1 ≤ self.old.spare }
         requires nothing { ChangesNothing what }
         requires fits { WhatFits self.old.entries what }
-        ensures { Adds self.old self.new (entry_of (said_by by) what ∷ []) }
+        ensures { Adds self.old self.new (entry_of (said_of by) what ∷ []) }
     {
         self.journal.add(Entry {
             actor: Actor::Session(by.session),
@@ -175,8 +180,9 @@ impl Server {
         requires room { 1 ≤ self.old.spare }
         requires unknown { IsUnknown (catalog self.old.entries) table.name }
         requires few { length (catalog self.old.entries) < 64 }
+        requires table { TableFits table }
         ensures done { OnOk result
-            (Adds self.old self.new (entry_of (said_by by) (What.Created table) ∷ [])) }
+            (Adds self.old self.new (entry_of (said_of by) (What.Created table) ∷ [])) }
         ensures same { OnErr result (Adds self.old self.new []) }
     {
         let held = table.duplicate(alloc)?;
@@ -195,8 +201,9 @@ impl Server {
 
     fn insert(&mut self, by: By, table: u32, rows: Rows) -> Reply
         requires room { 1 ≤ self.old.spare }
+        requires below { length self.old.entries < self.old.limit }
         requires fits { BoundFits (catalog self.old.entries) (Bound.Insert table rows) }
-        ensures { Does self.old self.new (said_by by) (Bound.Insert table rows) result }
+        ensures { Does self.old self.new (said_of by) (Bound.Insert table rows) result }
     {
         self.note(by, What::Begun { table });
         match self.reserve() {
@@ -212,10 +219,11 @@ impl Server {
     /// Commits the rows of an INSERT as the table's next block.
     fn commit(&mut self, by: By, table: u32, rows: Rows) -> Result<(), NoMemory>
         requires room { 1 ≤ self.old.spare }
+        requires below { length self.old.entries < self.old.limit }
         requires fits { BoundFits (catalog self.old.entries) (Bound.Insert table rows) }
         ensures done { OnOk result
             ((block : _)
-            × Adds self.old self.new (entry_of (said_by by) (What.Inserted table block rows) ∷ [])) }
+            × Adds self.old self.new (entry_of (said_of by) (What.Inserted table block rows) ∷ [])) }
         ensures same { OnErr result (Adds self.old self.new []) }
     {
         let place = table as usize;
@@ -233,8 +241,9 @@ impl Server {
 
     fn select(&mut self, alloc: Global, by: By, table: u32, query: &Query) -> Reply
         requires room { 1 ≤ self.old.spare }
+        requires below { length self.old.entries < self.old.limit }
         requires fits { BoundFits (catalog self.old.entries) (Bound.Select table query.now) }
-        ensures { Does self.old self.new (said_by by) (Bound.Select table query.now) result }
+        ensures { Does self.old self.new (said_of by) (Bound.Select table query.now) result }
     {
         match select(alloc, query, &self.stores[table as usize].rows) {
             Ok(rows) => {

@@ -1,5 +1,5 @@
-use Rattle.pj_legal.proofs.BodyLaws.{one_meaning, BodyBoundOrRefused-from}
+use Rattle.pj_legal.proofs.BodyCauses.{body_bound_or_refused}
 use Rattle.pj_legal.proofs.laws.body_bound_or_refused.Goals as goal
 
 pub returns : goal.returns
-returns c = BodyBoundOrRefused-from one_meaning
+returns c = body_bound_or_refused

@@ -6,7 +6,7 @@ use Rattle.pj_server.proofs.lines.run_lines.Goals as goal
 pub returns-in_default : goal.returns-in_default
 returns-in_default g c =
     let more =
-    RunsLines-more c.run_goes_on.ensures c.run_is_as_long.ensures c.texts_go_on.ensures c.run_line.result
+    RunsLines-more c.run_goes_on.ensures c.texts_go_on.ensures c.run_line.result
     c.lines.line-index c.args.server.now c.lines.server c.run_line.new.server c.args.names.now
     c.args.lines.now c.line-item.result
     (g.W.Sink.taken c.args.sink.now) (g.W.Sink.taken c.lines.sink)
@@ -21,7 +21,7 @@ returns-in_default g c =
 
 pub lines-preserved : goal.lines-preserved
 lines-preserved g c = (
-  RunsLines-more c.run_goes_on.ensures c.run_is_as_long.ensures c.texts_go_on.ensures Finished
+  RunsLines-more c.run_goes_on.ensures c.texts_go_on.ensures Finished
       c.lines.line-index c.args.server.now c.lines.server c.run_line.new.server c.args.names.now
       c.args.lines.now c.line-item.result
       (g.W.Sink.taken c.args.sink.now) (g.W.Sink.taken c.lines.sink)

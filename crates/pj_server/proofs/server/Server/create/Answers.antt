@@ -16,4 +16,4 @@ invariant_of-self-2 c =
     let unknown = rw (← c.self.view_is) at c.requires.unknown in
     rw (c.add-2.ensures.grown, c.in_ok-add.ensures.added, stores, c.in_ok-held.ensures)
     (Stands-created c.self.inside.journal.entries _ c.self.inside.tables c.self.inside.stores.items
-    c.args.table store refl unknown empty refl c.self.invariant)
+    c.args.table store refl (unknown, c.requires.table) empty refl c.self.invariant)
