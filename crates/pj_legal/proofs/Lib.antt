@@ -1,6 +1,7 @@
 mod BodyCauses
 mod BodyLaws
 mod ExampleLemmas
+mod FixedReplies
 mod FormLemmas
 mod Histories
 mod InsertBodies

@@ -1,7 +1,7 @@
 -- Replies that are read back from their texts.
 use Rattle.std.proofs.Common.{◌≡◌, ℕ, ◌<◌, ◌^◌, ◌++◌, length, Bool, true, false, ◌==◌, if◌then◌else◌}
 use Rattle.std.proofs.Common.{List, [], ◌∷◌, map, pred, sym, refl, subst, ap, ◌∙◌, arith, append_assoc}
-use Rattle.std.specs.List.{AllByRecursion, AllZip, flat_map}
+use Rattle.std.specs.List.{AllByRecursion, flat_map}
 use Rattle.std.specs.Fmt.{decimal}
 use Rattle.std.proofs.lemmas.Bool.{eqb-false}
 use Rattle.std.proofs.lemmas.List.{append_cancel_left}
@@ -18,8 +18,7 @@ use Rattle.pj_legal.specs.declared.reply.Reply.{Reply}
 use Rattle.pj_legal.specs.declared.reply.Reply.TheVariants as replies
 use Rattle.pj_legal.specs.Texts.{value_text, row_text, announced, following, as_line, reply_text}
 use Rattle.pj_legal.specs.Laws.{IsPlain, SayTheSame}
-use Rattle.pj_legal.specs.ToldReplies.{IsCleanValue, AreCleanRows, IsClean, HaveOneShape, Shown}
-use Rattle.pj_legal.specs.ToldReplies.{shown_text, IsCleanShown}
+use Rattle.pj_legal.specs.ToldReplies.{IsCleanValue, AreCleanRows, IsClean, HaveOneShape}
 use Rattle.pj_legal.proofs.TextLaws.{IsFree, IsFree-append, IsFree-decimal, parts_are_same}
 use Rattle.pj_legal.proofs.TextLaws.{reply_text-same, announced-same}
 
@@ -190,23 +189,3 @@ reply_text-told l m a b r s more others few many first other clean too shape sam
     let rest = reply-same r s more others clean too shape (announced-same r s said)
     (following-same l m a b r s more others told.0 told.1 said same) in
     (told.0, told.1, rest.0, rest.1)
-
--- and each of several replies
-pub shown_text-told : (shown known : List Shown) (more others : List ℕ) → AllByRecursion IsCleanShown shown
-    → AllByRecursion IsCleanShown known
-    → AllZip (λ one other. HaveOneShape one.reply other.reply) shown known
-    → flat_map shown_text shown ++ more ≡ flat_map shown_text known ++ others
-    → (shown ≡ known) × (more ≡ others)
-shown_text-told [] [] more others clean too shapes same = (refl, same)
-shown_text-told [] (x ∷ xs) more others clean too shapes same = absurd shapes
-shown_text-told (v ∷ vs) [] more others clean too shapes same = absurd shapes
-shown_text-told (v ∷ vs) (x ∷ xs) more others clean too shapes same =
-    let first = reply_text-told v.line x.line v.name x.name v.reply x.reply (flat_map shown_text vs ++ more)
-    (flat_map shown_text xs ++ others) clean.0.line too.0.line clean.0.name too.0.name clean.0.reply
-    too.0.reply shapes.0
-    (sym (append_assoc (shown_text v) (flat_map shown_text vs) more) ∙ same
-    ∙ append_assoc (shown_text x) (flat_map shown_text xs) others) in
-    let rest = shown_text-told vs xs more others clean.1 too.1 shapes.1 first.3 in (
-      (λ i. record { line = first.0 i; name = first.1 i; reply = first.2 i } ∷ rest.0 i),
-      rest.1,
-    )

@@ -1,13 +1,19 @@
--- The text of a reply fixes the reply, where the kinds of its columns are known (docs/FORMATS.md).
+-- The text of a reply fixes the reply, where the kinds of its columns are known; and so that of all replies
+-- fixes them (docs/FORMATS.md).
 use Rattle.std.specs.Prelude.{◌≡◌, ℕ, ◌<◌, ◌^◌, List, ◌++◌, length}
-use Rattle.std.specs.List.{AllByRecursion, AllZip, flat_map}
+use Rattle.std.specs.List.{AllByRecursion}
 use Rattle.pj_value.specs.declared.value.Value.{Value}
 use Rattle.pj_value.specs.declared.value.Value.TheVariants as values
 use Rattle.pj_value.specs.Rows.{KindedRows, HaveKinds}
-use Rattle.pj_parse.specs.Lines.{IsName}
+use Rattle.pj_parse.specs.declared.types.ScriptMode.{ScriptMode}
+use Rattle.pj_parse.specs.declared.types.Script.{Script}
+use Rattle.pj_parse.specs.Lines.{IsName, IsScript}
+use Rattle.pj_journal.specs.declared.entry.Entry.{Entry}
 use Rattle.pj_legal.specs.declared.reply.Reply.{Reply}
 use Rattle.pj_legal.specs.declared.reply.Reply.TheVariants as replies
-use Rattle.pj_legal.specs.Texts.{reply_text}
+use Rattle.pj_legal.specs.Statements.{Shown}
+use Rattle.pj_legal.specs.Legal.{IsLegal}
+use Rattle.pj_legal.specs.Texts.{reply_text, replies_text}
 use Rattle.pj_legal.specs.Laws.{IsPlainRefusal, HasSmallPlace}
 
 -- a text, or a number below 2 ^ 64
@@ -41,27 +47,17 @@ RepliesAreTold =
     → reply_text l a r ++ more ≡ reply_text m b s ++ others
     → (l ≡ m) × (a ≡ b) × (r ≡ s) × (more ≡ others)
 
--- a reply with the line of its statement and the name of its session
-pub record Shown : Type 0 where
-  pub line : ℕ
-  pub name : List ℕ
-  pub reply : Reply
+-- the reply is one of the machine: its rows are clean, or a refusal gives no place from 2 ^ 64 on
+abbrev pub FitsReply : Reply → Type 0
+FitsReply replies.Done = Unit {0}
+FitsReply (replies.Rows out) = AreCleanRows out
+FitsReply (replies.Refused refusal) = HasSmallPlace refusal
 
--- the text of one
-abbrev pub shown_text : Shown → List ℕ
-shown_text shown = reply_text shown.line shown.name shown.reply
-
--- the line is one of 32 bits, the name one of a session, and the reply is clean
-pub record IsCleanShown (shown : Shown) : Type 0 where
-  pub line : shown.line < 2 ^ 32
-  pub name : IsName shown.name
-  pub reply : IsClean shown.reply
-
--- a text that begins with replies, one after the other, fixes them all, and the text behind them, where it is
--- known how many they are and the kinds of their columns
-abbrev pub AllRepliesAreTold : Type 0
-AllRepliesAreTold =
-    (shown known : List Shown) (more others : List ℕ) → AllByRecursion IsCleanShown shown
-    → AllByRecursion IsCleanShown known → AllZip (λ one other. HaveOneShape one.reply other.reply) shown known
-    → flat_map shown_text shown ++ more ≡ flat_map shown_text known ++ others
-    → (shown ≡ known) × (more ≡ others)
+-- among the replies that are legal for a script and a history, their text fixes them
+abbrev pub TextFixesReplies : Type 0
+TextFixesReplies =
+    (mode : ScriptMode) (bytes : List ℕ) (script : Script) (h : List Entry) (a b : List Shown)
+    → length bytes < 2 ^ 31 → IsScript mode bytes script
+    → IsLegal script h a → IsLegal script h b
+    → AllByRecursion (λ shown. FitsReply shown.reply) a → AllByRecursion (λ shown. FitsReply shown.reply) b
+    → replies_text script.names a ≡ replies_text script.names b → a ≡ b

@@ -21,7 +21,7 @@ pub use laws::{
 pub use pj_bind::{BindFault, bind};
 pub use reading::{Parsed, read_statement};
 pub use reply::{Reply, reply_text};
-pub use told::{all_replies_are_told, replies_are_told};
+pub use told::{replies_are_told, text_fixes_replies};
 
 #[cfg(test)]
 mod examples;

@@ -1,0 +1,487 @@
+-- The text of legal replies fixes them.
+use Rattle.std.proofs.Common.{◌≡◌, ℕ, ◌+◌, ◌<◌, ◌≤◌, ◌^◌, ◌++◌, length, zero, suc, Bool, true, false, cond}
+use Rattle.std.proofs.Common.{List, [], ◌∷◌, map, Option, Some, None, sym, refl, ap, ◌∙◌, subst, inl, inr}
+use Rattle.std.proofs.Common.{arith, append-nil, length-append}
+use Rattle.std.specs.Prelude.{◌==◌, ◌⊎◌, slice_get, Contains, slice_index_or}
+use Rattle.std.specs.List.{AllByRecursion, flat_map}
+use Rattle.std.specs.Fmt.{decimal}
+use Rattle.std.proofs.lemmas.Bool.{eq-eqb, cond_both}
+use Rattle.std.proofs.lemmas.Option.{none-some, same_Some, slice_get_within, slice_get-get_or}
+use Rattle.pj_expr.specs.declared.query.Query.{Query}
+use Rattle.pj_expr.specs.Answers.{item_kind}
+use Rattle.pj_value.specs.Rows.{KindedRows}
+use Rattle.pj_parse.specs.declared.types.ScriptMode.{ScriptMode}
+use Rattle.pj_parse.specs.declared.types.ScriptLine.{ScriptLine}
+use Rattle.pj_parse.specs.declared.types.Script.{Script}
+use Rattle.pj_parse.specs.Lines.{IsName, AreLines, IsScript, pieces, onto_first}
+use Rattle.pj_journal.specs.declared.entry.Actor.TheVariants.{Session}
+use Rattle.pj_journal.specs.declared.entry.What.TheVariants.{Looked}
+use Rattle.pj_journal.specs.declared.entry.Entry.{Entry}
+use Rattle.pj_journal.specs.History.{catalog, table_rows}
+use Rattle.pj_journal.specs.Moves.{Move, moves_by, for_line}
+use Rattle.pj_bind.specs.declared.types.Bound.{Bound}
+use Rattle.pj_bind.specs.declared.types.Bound.TheVariants as bounds
+use Rattle.pj_legal.specs.declared.reply.Reply.{Reply}
+use Rattle.pj_legal.specs.declared.reply.Reply.TheVariants as replies
+use Rattle.pj_legal.specs.Binding.{BodyBinds}
+use Rattle.pj_legal.specs.Statements.{Said, whole, statement_of, statements, said_by, Shown, shown_to}
+use Rattle.pj_legal.specs.Forms.{Course, BoundForm, Form, move_of}
+use Rattle.pj_legal.specs.Shares.{Takes, Went, Rise}
+use Rattle.pj_legal.specs.Legal.{IsLegal}
+use Rattle.pj_legal.specs.Texts.{name_at, announced, following, reply_text, replies_text, as_line}
+use Rattle.pj_legal.specs.Laws.{lines_said, IsPlain}
+use Rattle.pj_legal.specs.ToldReplies.{IsClean, HaveOneShape, FitsReply, TextFixesReplies}
+use Rattle.pj_legal.proofs.BodyLaws.{BodyBinds-one, one_meaning}
+use Rattle.pj_legal.proofs.PlainReplies.{IsLegal-plain}
+use Rattle.pj_legal.proofs.RunLemmas.{AreWhole}
+use Rattle.pj_legal.proofs.TextLaws.{reply_text-same}
+use Rattle.pj_legal.proofs.ToldLemmas.{reply_text-told}
+
+-- ---- a script's names and lines
+
+-- no two of the names are one
+abbrev Differ : List (List ℕ) → Type 0
+Differ names =
+    (i j : ℕ) (name : List ℕ) → slice_get names i ≡ Some name → slice_get names j ≡ Some name → i ≡ j
+
+-- names of sessions, no two of which are one
+abbrev AreNames : List (List ℕ) → Type 0
+AreNames names = AllByRecursion IsName names × Differ names
+
+slice_get_push : {X : Type 0} (xs : List X) (x : X) (i : ℕ) (y : X) → slice_get (xs ++ x ∷ []) i ≡ Some y
+    → (slice_get xs i ≡ Some y) ⊎ ((i ≡ length xs) × (x ≡ y))
+slice_get_push [] x zero y here = inr (refl, same_Some x y here)
+slice_get_push [] x (suc i) y here = absurd (none-some y here)
+slice_get_push (z ∷ xs) x zero y here = inl here
+slice_get_push (z ∷ xs) x (suc i) y here =
+    elim (slice_get_push xs x i y here) [ inl old ↦ inl old | inr last ↦ inr (ap suc last.0, last.1) ]
+
+Contains-get : (names : List (List ℕ)) (i : ℕ) (name : List ℕ) → slice_get names i ≡ Some name
+    → Contains names name
+Contains-get [] i name here = absurd (none-some name here)
+Contains-get (n ∷ names) zero name here = (0, omega arith, same_Some n name here)
+Contains-get (n ∷ names) (suc i) name here =
+    let (k, within, is) = Contains-get names i name here in (suc k, omega (arith, within), is)
+
+Differ-push : (names : List (List ℕ)) (name : List ℕ) → Differ names → (Contains names name → ⊥)
+    → Differ (names ++ name ∷ [])
+Differ-push names name differ new i j n first other =
+    by (slice_get_push names name i n first) (slice_get_push names name j n other)
+  where
+    Is : ℕ → Type 0
+    Is k = (slice_get names k ≡ Some n) ⊎ ((k ≡ length names) × (name ≡ n))
+
+    by : Is i → Is j → i ≡ j
+    by (inl old) (inl earlier) = differ i j n old earlier
+    by (inl old) (inr last) = absurd (new (subst (Contains names) (sym last.1) (Contains-get names i n old)))
+    by (inr last) (inl old) = absurd (new (subst (Contains names) (sym last.1) (Contains-get names j n old)))
+    by (inr last) (inr end) = last.0 ∙ sym end.0
+
+All-push : {X : Type 0} (P : X → Type 0) (xs : List X) (x : X) → AllByRecursion P xs → P x
+    → AllByRecursion P (xs ++ x ∷ [])
+All-push P [] x all holds = (holds, tt)
+All-push P (y ∷ ys) x all holds = (all.0, All-push P ys x all.1 holds)
+
+AreNames-lines : (mode : ScriptMode) (at : ℕ) (before : List (List ℕ)) (ps : List (List ℕ))
+    (ls : List ScriptLine) (after : List (List ℕ)) → AreLines mode at before ps ls after → AreNames before
+    → AreNames after
+AreNames-lines mode at before [] ls after are names = subst AreNames (sym are.1) names
+AreNames-lines mode at before (p ∷ ps) ls after (inl skipped) names =
+    AreNames-lines mode (at + 1) before ps ls after skipped.1 names
+AreNames-lines mode at before (p ∷ ps) ls after (inr (line, others, now, spells, is, more)) names =
+    AreNames-lines mode (at + 1) now ps others after more (elim spells.numbered [
+      | inl known ↦ subst AreNames (sym known.1) names
+      | inr new ↦
+          subst AreNames (sym new.2) (
+            All-push IsName before spells.name names.0 spells.spelled.named,
+            Differ-push before spells.name names.1 new.0,
+          )
+    ])
+
+-- the lines of a script rise, and are no more than its pieces
+abbrev AreBetween : ℕ → ℕ → List ScriptLine → Type 0
+AreBetween low high [] = Unit {0}
+AreBetween low high (l ∷ ls) = (low < l.line) × (l.line < high) × AreBetween l.line high ls
+
+AreBetween-weaken : (low next high : ℕ) (ls : List ScriptLine) → low ≤ next → AreBetween next high ls
+    → AreBetween low high ls
+AreBetween-weaken low next high [] le all = tt
+AreBetween-weaken low next high (l ∷ ls) le all = (omega (arith, all.0), all.1, all.2)
+
+AreBetween-lines : (mode : ScriptMode) (low at : ℕ) (before : List (List ℕ)) (ps : List (List ℕ))
+    (ls : List ScriptLine) (after : List (List ℕ)) → low < at → AreLines mode at before ps ls after
+    → AreBetween low (at + length ps) ls
+AreBetween-lines mode low at before [] ls after lt are =
+    subst (AreBetween low (at + 0)) (sym are.0) tt
+AreBetween-lines mode low at before (p ∷ ps) ls after lt (inl skipped) =
+    let same : (at + 1) + length ps ≡ at + length (p ∷ ps) = omega arith in
+    subst (λ high. AreBetween low high ls) same
+    (AreBetween-lines mode low (at + 1) before ps ls after (omega arith) skipped.1)
+AreBetween-lines mode low at before (p ∷ ps) ls after lt (inr (line, others, now, spells, is, more)) =
+    let same : (at + 1) + length ps ≡ at + length (p ∷ ps) = omega arith in
+    let here : line.line ≡ at = spells.counted in
+    subst (AreBetween low (at + length (p ∷ ps))) (sym is) (
+      omega (arith, here, lt),
+      omega (arith, here),
+      subst (λ high. AreBetween line.line high others) same
+          (AreBetween-lines mode line.line (at + 1) now ps others after (omega (arith, here)) more),
+    )
+
+length-onto : (b : ℕ) (ps : List (List ℕ)) → length (onto_first b ps) ≤ length ps + 1
+length-onto b [] = omega arith
+length-onto b (p ∷ ps) = omega arith
+
+length-pieces : (bytes : List ℕ) → length (pieces bytes) ≤ length bytes
+length-pieces [] = omega arith
+length-pieces (b ∷ bs) =
+    cond_both (b == 10) ([] ∷ pieces bs) (onto_first b (pieces bs)) (λ ps. length ps ≤ length (b ∷ bs))
+    (λ feed. let rest = length-pieces bs in omega arith)
+    (λ other. length-rest bs (pieces bs) (length-pieces bs))
+  where
+    length-rest : (xs : List ℕ) (ps : List (List ℕ)) → length ps ≤ length xs
+        → length (onto_first b ps) ≤ length (b ∷ xs)
+    length-rest xs ps le = omega (arith, length-onto b ps, le)
+
+-- ---- the statement that a reply is of
+
+-- the element is one of the list
+abbrev pub In : {X : Type 0} → X → List X → Type 0
+In x [] = ⊥
+In x (y ∷ ys) = (x ≡ y) ⊎ In x ys
+
+-- statements that are whole, on rising lines below this one
+abbrev AreInOrder : ℕ → ℕ → List Said → Type 0
+AreInOrder low high [] = Unit {0}
+AreInOrder low high (said ∷ saids) =
+    (low < said.line) × (said.line < high) × (said.shown ≡ Some said.line) × AreInOrder said.line high saids
+
+AreInOrder-weaken : (low next high : ℕ) (saids : List Said) → low ≤ next → AreInOrder next high saids
+    → AreInOrder low high saids
+AreInOrder-weaken low next high [] le all = tt
+AreInOrder-weaken low next high (s ∷ ss) le all = (omega (arith, all.0), all.1, all.2, all.3)
+
+AreInOrder-statements : (low high : ℕ) (ls : List ScriptLine) → AreBetween low high ls
+    → AreInOrder low high (map statement_of ls)
+AreInOrder-statements low high [] all = tt
+AreInOrder-statements low high (l ∷ ls) all =
+    (all.0, all.1, refl, AreInOrder-statements l.line high ls all.2)
+
+AreInOrder-step : (low high : ℕ) (b : Bool) (said : Said) (saids : List Said) → low < said.line
+    → said.line < high → said.shown ≡ Some said.line → AreInOrder said.line high saids
+    → AreInOrder low high (cond b (said ∷ saids) saids)
+AreInOrder-step low high true said saids lt within whole rest = (lt, within, whole, rest)
+AreInOrder-step low high false said saids lt within whole rest =
+    AreInOrder-weaken low said.line high saids (omega (arith, lt)) rest
+
+AreInOrder-said_by : (low high session : ℕ) (saids : List Said) → AreInOrder low high saids
+    → AreInOrder low high (said_by session saids)
+AreInOrder-said_by low high session [] all = tt
+AreInOrder-said_by low high session (said ∷ saids) all =
+    AreInOrder-step low high (said.session == session) said (said_by session saids) all.0 all.1 all.2
+    (AreInOrder-said_by said.line high session saids all.3)
+
+-- a statement of the list: its line, and that it is whole
+In-facts : (low high : ℕ) (x : Said) (saids : List Said) → AreInOrder low high saids → In x saids
+    → (low < x.line) × (x.line < high) × (x.shown ≡ Some x.line)
+In-facts low high x [] all is = absurd is
+In-facts low high x (s ∷ ss) all (inl same) =
+    subst (λ (y : Said). (low < y.line) × (y.line < high) × (y.shown ≡ Some y.line)) (sym same)
+    (all.0, all.1, all.2)
+In-facts low high x (s ∷ ss) all (inr later) =
+    let facts = In-facts s.line high x ss all.3 later in
+    (omega (arith, all.0, facts.0), facts.1, facts.2)
+
+-- two of one line are one
+In-one : (low high : ℕ) (x y : Said) (saids : List Said) → AreInOrder low high saids → In x saids
+    → In y saids → x.line ≡ y.line → x ≡ y
+In-one low high x y [] all first other same = absurd first
+In-one low high x y (s ∷ ss) all (inl a) (inl b) same = a ∙ sym b
+In-one low high x y (s ∷ ss) all (inl a) (inr b) same =
+    let facts = In-facts s.line high y ss all.3 b in
+    let line : x.line ≡ s.line = ap (λ (z : Said). z.line) a in
+    absurd (omega (arith, facts.0, line, same))
+In-one low high x y (s ∷ ss) all (inr a) (inl b) same =
+    let facts = In-facts s.line high x ss all.3 a in
+    let line : y.line ≡ s.line = ap (λ (z : Said). z.line) b in
+    absurd (omega (arith, facts.0, line, same))
+In-one low high x y (s ∷ ss) all (inr a) (inr b) same = In-one s.line high x y ss all.3 a b same
+
+-- the statement of a reply, with its form
+pub record IsTold (mine : List Move) (saids : List Said) (shown : Shown) : Type 0 where
+  pub said : Said
+  pub is : In said saids
+  pub at : said.shown ≡ Some shown.line
+  pub form : Form said (record { moves = for_line said.line mine; reply = Some shown.reply })
+
+IsTold-later : (mine : List Move) (s : Said) (saids : List Said) (shown : Shown) → IsTold mine saids shown
+    → IsTold mine (s ∷ saids) shown
+IsTold-later mine s saids shown told =
+    record { said = told.said; is = inr told.is; at = told.at; form = told.form }
+
+AllTold-later : (mine : List Move) (s : Said) (saids : List Said) (rs : List Shown)
+    → AllByRecursion (IsTold mine saids) rs → AllByRecursion (IsTold mine (s ∷ saids)) rs
+AllTold-later mine s saids [] all = tt
+AllTold-later mine s saids (r ∷ rs) all =
+    (IsTold-later mine s saids r all.0, AllTold-later mine s saids rs all.1)
+
+Takes-told : (o : Option ℕ) (mine : List Move) (said : Said) (saids : List Said) (rs : List Shown)
+    → said.shown ≡ o
+    → ((more : List Shown) → Went Form mine saids more → AllByRecursion (IsTold mine saids) more)
+    → Takes o (λ reply. Form said (record { moves = for_line said.line mine; reply = reply }))
+    (Went Form mine saids) rs
+    → AllByRecursion (IsTold mine (said ∷ saids)) rs
+Takes-told None mine said saids rs is rest takes = AllTold-later mine said saids rs (rest rs takes.1)
+Takes-told (Some line) mine said saids [] is rest takes = absurd takes
+Takes-told (Some line) mine said saids (r ∷ rs) is rest takes = (
+  record { said = said; is = inl refl; at = is ∙ ap Some (sym takes.0); form = takes.1 },
+  AllTold-later mine said saids rs (rest rs takes.2),
+)
+
+Went-told : (mine : List Move) (saids : List Said) (rs : List Shown) → Went Form mine saids rs
+    → AllByRecursion (IsTold mine saids) rs
+Went-told mine [] rs went = subst (AllByRecursion (IsTold mine [])) (sym went) tt
+Went-told mine (said ∷ saids) rs went =
+    Takes-told said.shown mine said saids rs refl (Went-told mine saids) went
+
+-- what holds of the replies to each session holds of all
+All-tail : (P : Shown → Type 0) (b : Bool) (shown : Shown) (more : List Shown)
+    → AllByRecursion P (cond b (shown ∷ more) more) → AllByRecursion P more
+All-tail P true shown more all = all.1
+All-tail P false shown more all = all
+
+All-heard : (P : ℕ → Shown → Type 0) (count : ℕ) (rs : List Shown)
+    → AllByRecursion (λ shown. shown.session < count) rs
+    → ((session : ℕ) → session < count → AllByRecursion (P session) (shown_to session rs))
+    → AllByRecursion (λ shown. P shown.session shown) rs
+All-heard P count [] heard each = tt
+All-heard P count (r ∷ rs) heard each =
+    let rest = shown_to r.session rs in
+    let first : AllByRecursion (P r.session) (r ∷ rest) =
+    subst (λ b. AllByRecursion (P r.session) (cond b (r ∷ rest) rest)) (eq-eqb r.session r.session refl)
+    (each r.session heard.0) in (
+      first.0,
+      All-heard P count rs heard.1 (λ session there.
+          All-tail (P session) (r.session == session) r (shown_to session rs) (each session there)),
+    )
+
+-- ---- the kinds of a reply's columns
+
+-- rows answer the query of a SELECT that looked, and have the kinds of its items
+pub record AreOfSelect (said : Said) (ms : List Move) (out : KindedRows) : Type 0 where
+  pub place : List Entry
+  pub table : ℕ
+  pub query : Query
+  pub binds : BodyBinds (catalog place) said.body (bounds.Select table query)
+  pub moves : ms ≡ move_of said place (Looked table) ∷ []
+  pub kinds : out.kinds ≡ map (item_kind (table_rows place table).kinds) query.items
+
+of_bound : (said : Said) (place : List Entry) (bound : Bound) (went : Course) (out : KindedRows)
+    → went.reply ≡ Some (replies.Rows out) → BodyBinds (catalog place) said.body bound
+    → BoundForm place said bound went → AreOfSelect said went.moves out
+of_bound said place (bounds.Create table) went out is binds form =
+    let same : Some replies.Done ≡ Some (replies.Rows out) = sym form.1 ∙ is in
+    absurd (done_rows out (same_Some _ _ same))
+  where
+    done_rows : (out : KindedRows) → replies.Done ≡ replies.Rows out → ⊥
+    done_rows out same = cc
+of_bound said place (bounds.Insert table rows) went out is binds form =
+    let same : Some replies.Done ≡ Some (replies.Rows out) = sym form.3 ∙ is in
+    absurd (done_rows out (same_Some _ _ same))
+  where
+    done_rows : (out : KindedRows) → replies.Done ≡ replies.Rows out → ⊥
+    done_rows out same = cc
+of_bound said place (bounds.Select table query) went out is binds (answer, right, moves, reply) =
+    let same : answer ≡ out = rows_are answer out (same_Some _ _ (sym reply ∙ is)) in
+    record {
+      place = place;
+      table = table;
+      query = query;
+      binds = binds;
+      moves = moves;
+      kinds = ap (λ (o : KindedRows). o.kinds) (sym same) ∙ right.kinds;
+    }
+  where
+    rows_are : (a b : KindedRows) → replies.Rows a ≡ replies.Rows b → a ≡ b
+    rows_are a b same = cc
+
+refused_rows : (refusal : _) (out : KindedRows) → replies.Refused refusal ≡ replies.Rows out → ⊥
+refused_rows refusal out same = cc
+
+of_form : (said : Said) (went : Course) (out : KindedRows) → went.reply ≡ Some (replies.Rows out)
+    → Form said went → AreOfSelect said went.moves out
+of_form said went out is (inl refused) =
+    absurd (refused_rows refused.refusal out (same_Some _ _ (sym refused.reply ∙ is)))
+of_form said went out is (inr (inl done)) =
+    of_bound said done.place done.bound went out is done.binds done.form
+of_form said went out is (inr (inr (inl starved))) =
+    absurd (refused_rows _ out (same_Some _ _ (sym starved.reply ∙ is)))
+of_form said went out is (inr (inr (inr (inl shut)))) =
+    absurd (refused_rows _ out (same_Some _ _ (sym shut.reply ∙ is)))
+of_form said went out is (inr (inr (inr (inr left)))) =
+    absurd (none-some (replies.Rows out) (sym left.reply ∙ is))
+
+-- the place of the first of some moves
+abbrev first_place : List Move → List Entry
+first_place [] = []
+first_place (m ∷ ms) = m.place
+
+select_are : (t u : ℕ) (p q : Query) → bounds.Select t p ≡ bounds.Select u q → (t ≡ u) × (p ≡ q)
+select_are t u p q same = (cc, cc)
+
+-- two rows that one SELECT gives have the same kinds
+kinds_are : (said : Said) (ms : List Move) (out other : KindedRows) → AreOfSelect said ms out
+    → AreOfSelect said ms other → out.kinds ≡ other.kinds
+kinds_are said ms out other a b =
+    let places : a.place ≡ b.place = ap first_place (sym a.moves ∙ b.moves) in
+    let bound : bounds.Select a.table a.query ≡ bounds.Select b.table b.query =
+    BodyBinds-one one_meaning said.body (catalog b.place) (bounds.Select a.table a.query)
+    (bounds.Select b.table b.query)
+    (subst (λ (es : List Entry). BodyBinds (catalog es) said.body (bounds.Select a.table a.query)) places
+    a.binds) b.binds in
+    let (tables, queries) = select_are a.table b.table a.query b.query bound in
+    a.kinds
+    ∙ (λ i. map (item_kind (table_rows (places i) (tables i)).kinds) (queries i).items)
+    ∙ sym b.kinds
+
+-- two replies to one statement have one shape
+shapes_are : (said : Said) (ms : List Move) (r s : Reply)
+    → Form said (record { moves = ms; reply = Some r }) → Form said (record { moves = ms; reply = Some s })
+    → HaveOneShape r s
+shapes_are said ms (replies.Rows out) (replies.Rows other) a b =
+    kinds_are said ms out other (of_form said (record { moves = ms; reply = Some (replies.Rows out) }) out refl a)
+    (of_form said (record { moves = ms; reply = Some (replies.Rows other) }) other refl b)
+shapes_are said ms replies.Done s a b = tt
+shapes_are said ms (replies.Refused refusal) s a b = tt
+shapes_are said ms (replies.Rows out) replies.Done a b = tt
+shapes_are said ms (replies.Rows out) (replies.Refused refusal) a b = tt
+
+-- ---- all of it
+
+clean_from : (r : Reply) → IsPlain r → FitsReply r → IsClean r
+clean_from replies.Done plain fits = tt
+clean_from (replies.Rows out) plain fits = fits
+clean_from (replies.Refused refusal) plain fits = (plain, fits)
+
+-- what is known of each reply of a legal list
+pub record IsKnown (script : Script) (h : List Entry) (shown : Shown) : Type 0 where
+  pub heard : shown.session < length script.names
+  pub told :
+      IsTold (moves_by (Session shown.session) h) (said_by shown.session (statements script)) shown
+  pub clean : IsClean shown.reply
+
+AllKnown : (script : Script) (h : List Entry) (rs : List Shown)
+    → AllByRecursion (λ shown. shown.session < length script.names) rs
+    → AllByRecursion (λ shown. IsTold (moves_by (Session shown.session) h)
+    (said_by shown.session (statements script)) shown) rs
+    → AllByRecursion (λ shown. IsPlain shown.reply) rs → AllByRecursion (λ shown. FitsReply shown.reply) rs
+    → AllByRecursion (IsKnown script h) rs
+AllKnown script h [] heard told plain fits = tt
+AllKnown script h (r ∷ rs) heard told plain fits = (
+  record { heard = heard.0; told = told.0; clean = clean_from r.reply plain.0 fits.0 },
+  AllKnown script h rs heard.1 told.1 plain.1 fits.1,
+)
+
+known_from : (script : Script) (h : List Entry) (rs : List Shown) → IsLegal script h rs
+    → AllByRecursion (λ shown. FitsReply shown.reply) rs → AllByRecursion (IsKnown script h) rs
+known_from script h rs legal fits =
+    AllKnown script h rs legal.heard
+    (All-heard
+    (λ session. IsTold (moves_by (Session session) h) (said_by session (statements script)))
+    (length script.names) rs legal.heard
+    (λ session there. Went-told (moves_by (Session session) h) (said_by session (statements script))
+    (shown_to session rs) (legal.sessions session there).answered))
+    (IsLegal-plain script h rs legal) fits
+
+reply_text-some : (line : ℕ) (name : List ℕ) (reply : Reply) (more : List ℕ)
+    → [] ≡ reply_text line name reply ++ more → ⊥
+unfolding reply_text
+reply_text-some line name reply more same =
+    let text : List ℕ = decimal line ++ (32 ∷ (name ++ (32 ∷ announced reply))) in
+    let others : List ℕ = flat_map as_line (following reply) in
+    let none : 0 ≡ length ((as_line text ++ others) ++ more) = ap length same in
+    omega (
+      arith,
+      none,
+      length-append (as_line text ++ others) more,
+      length-append (text ++ 10 ∷ []) others,
+      length-append text (10 ∷ []),
+    )
+
+IsName-at : (names : List (List ℕ)) (i : ℕ) → AllByRecursion IsName names → i < length names
+    → IsName (name_at names i)
+IsName-at [] i all there = absurd (omega arith)
+IsName-at (n ∷ names) zero all there = all.0
+IsName-at (n ∷ names) (suc i) all there = IsName-at names i all.1 (omega (arith, there))
+
+module _ (script : Script) (h : List Entry) (names : AreNames script.names) (high : ℕ)
+    (order : AreInOrder 0 high (statements script)) (small : high ≤ 2 ^ 32) where
+  -- sessions of one name are one
+  one_session : (i j : ℕ) → i < length script.names → j < length script.names
+      → name_at script.names i ≡ name_at script.names j → i ≡ j
+  one_session i j there too same =
+      names.1 i j (name_at script.names i) (slice_get-get_or script.names i [] there)
+      (slice_get-get_or script.names j [] too ∙ ap Some (sym same))
+
+  -- the line of a known reply is one of 32 bits
+  small_line : (r : Shown) → IsKnown script h r → r.line < 2 ^ 32
+  small_line r known =
+      let facts = In-facts 0 high known.told.said (said_by r.session (statements script))
+      (AreInOrder-said_by 0 high r.session (statements script) order) known.told.is in
+      let line : known.told.said.line ≡ r.line = same_Some _ _ (sym facts.2 ∙ known.told.at) in
+      omega (arith, facts.1, line, small)
+
+  -- known replies at one line to one session have one shape
+  one_shape : (r s : Shown) → IsKnown script h r → IsKnown script h s → r.line ≡ s.line
+      → r.session ≡ s.session → HaveOneShape r.reply s.reply
+  one_shape r s a b lines sessions =
+      let mine : List Move = moves_by (Session s.session) h in
+      let saids : List Said = said_by s.session (statements script) in
+      let in_order = AreInOrder-said_by 0 high s.session (statements script) order in
+      let moved : IsTold mine saids r =
+      subst (λ i. IsTold (moves_by (Session i) h) (said_by i (statements script)) r) sessions a.told in
+      let facts = In-facts 0 high moved.said saids in_order moved.is in
+      let too = In-facts 0 high b.told.said saids in_order b.told.is in
+      let line : moved.said.line ≡ r.line = same_Some _ _ (sym facts.2 ∙ moved.at) in
+      let other : b.told.said.line ≡ s.line = same_Some _ _ (sym too.2 ∙ b.told.at) in
+      let same : moved.said ≡ b.told.said =
+      In-one 0 high moved.said b.told.said saids in_order moved.is b.told.is (line ∙ lines ∙ sym other) in
+      shapes_are b.told.said (for_line b.told.said.line mine) r.reply s.reply
+      (subst (λ (x : Said). Form x (record { moves = for_line x.line mine; reply = Some r.reply })) same
+      moved.form) b.told.form
+
+  -- so the text fixes them, one by one
+  fixed : (a b : List Shown) → AllByRecursion (IsKnown script h) a → AllByRecursion (IsKnown script h) b
+      → replies_text script.names a ≡ replies_text script.names b → a ≡ b
+  fixed [] [] known too same = refl
+  fixed [] (s ∷ ss) known too same =
+      absurd (reply_text-some s.line (name_at script.names s.session) s.reply (replies_text script.names ss)
+      same)
+  fixed (r ∷ rs) [] known too same =
+      absurd (reply_text-some r.line (name_at script.names r.session) r.reply (replies_text script.names rs)
+      (sym same))
+  fixed (r ∷ rs) (s ∷ ss) known too same =
+      let first = IsName-at script.names r.session names.0 known.0.heard in
+      let other = IsName-at script.names s.session names.0 too.0.heard in
+      let few = small_line r known.0 in
+      let many = small_line s too.0 in
+      let told = reply_text-same r.line s.line (name_at script.names r.session) (name_at script.names s.session)
+      r.reply s.reply (replies_text script.names rs) (replies_text script.names ss) few many first other same in
+      let sessions : r.session ≡ s.session =
+      one_session r.session s.session known.0.heard too.0.heard told.1 in
+      let all = reply_text-told r.line s.line (name_at script.names r.session) (name_at script.names s.session)
+      r.reply s.reply (replies_text script.names rs) (replies_text script.names ss) few many first other
+      known.0.clean too.0.clean (one_shape r s known.0 too.0 told.0 sessions) same in
+      let rest : rs ≡ ss = fixed rs ss known.1 too.1 all.3 in
+      (λ i. record { line = told.0 i; session = sessions i; reply = all.2 i } ∷ rest i)
+
+pub text_fixes_replies : TextFixesReplies
+text_fixes_replies mode bytes script h a b few spelled legal other fits too same =
+    let high : ℕ = 1 + length (pieces bytes) in
+    fixed script h
+    (AreNames-lines mode 1 [] (pieces bytes) script.lines script.names spelled
+    (tt, (λ i j name here there. absurd (none-some name here))))
+    high
+    (AreInOrder-statements 0 high script.lines
+    (AreBetween-lines mode 0 1 [] (pieces bytes) script.lines script.names (omega arith) spelled))
+    (omega (arith, few, length-pieces bytes))
+    a b (known_from script h a legal fits) (known_from script h b other too) same
