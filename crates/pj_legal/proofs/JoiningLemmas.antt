@@ -36,7 +36,7 @@ WorkerShare-more worker h more none share =
     let same : moves_by (Worker worker) h ≡ moves_by (Worker worker) (h ++ more) =
     sym (moves_by-more (Worker worker) h more none) in
     record {
-      tasks = subst (AllByRecursion (λ (m : Move). IsTask m.entry.what)) same share.tasks;
+      tasks = subst (AllByRecursion (λ (m : Move). IsTask m.place m.entry.what)) same share.tasks;
       order = subst (λ (ms : List Move). Rise 0 (lines_of ms)) same share.order;
     }
 

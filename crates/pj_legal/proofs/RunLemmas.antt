@@ -449,7 +449,7 @@ IsPlayed-run limit script replies h rise named run regular within = (played, kee
 
     work : (worker : ℕ) → WorkerShare worker h
     work worker = record {
-      tasks = subst (AllByRecursion (λ (m : Move). IsTask m.entry.what)) (sym (no_moves worker)) tt;
+      tasks = subst (AllByRecursion (λ (m : Move). IsTask m.place m.entry.what)) (sym (no_moves worker)) tt;
       order = subst (λ (ms : List Move). Rise 0 (lines_of ms)) (sym (no_moves worker)) tt;
     }
 

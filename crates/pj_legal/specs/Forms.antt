@@ -32,7 +32,7 @@ entry_of said what = record { actor = Session said.session; line = said.line; wh
 abbrev pub move_of : Said → List Entry → What → Move
 move_of said place what = record { place = place; entry = entry_of said what }
 
--- the replies to a statement that found no memory, and to one that found the journal full
+-- the replies that there was no memory, and that the journal was full
 abbrev pub no_memory : Reply
 no_memory = replies.Refused refusals.NoMemory
 
@@ -93,12 +93,13 @@ StopsAfter sort said course =
     ⊎ ((place : List Entry) × (bound : Bound) × (what : What) × BodyBinds (catalog place) said.body bound
     × sort bound what × (course.moves ≡ move_of said place what ∷ []))
 
--- the statement found no memory
+-- the statement is answered that there was no memory, before its first move or behind one that it may stop after
 pub record IsStarved (said : Said) (course : Course) : Type 0 where
   pub stopped : StopsAfter MayStarve said course
   pub reply : course.reply ≡ Some no_memory
 
--- the statement found the journal full at its next move
+-- the statement is answered that the journal was full, before its first move or behind one that has another to
+-- come
 pub record IsShutOut (said : Said) (course : Course) : Type 0 where
   pub stopped : StopsAfter MovesOn said course
   pub reply : course.reply ≡ Some history_full

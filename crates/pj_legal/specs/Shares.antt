@@ -48,15 +48,15 @@ pub record SessionShare (session : ℕ) (saids : List Said) (h : List Entry) (re
   pub order : NeverFall 0 (lines_of (moves_by (Session session) h))
   pub answered : Went Form (moves_by (Session session) h) saids replies
 
--- what a worker's task may add: none of the entries that are built
-abbrev pub IsTask : What → Type 0
-IsTask (whats.Created table) = ⊥
-IsTask whats.Refused = ⊥
-IsTask (whats.Looked table) = ⊥
-IsTask (whats.Begun table) = ⊥
-IsTask (whats.Inserted table block rows) = ⊥
+-- what a worker's task may add to a place: none of the entries that are built
+abbrev pub IsTask : List Entry → What → Type 0
+IsTask place (whats.Created table) = ⊥
+IsTask place whats.Refused = ⊥
+IsTask place (whats.Looked table) = ⊥
+IsTask place (whats.Begun table) = ⊥
+IsTask place (whats.Inserted table block rows) = ⊥
 
 -- the share of a worker: each of its entries is that of a task, and the numbers of its tasks rise
 pub record WorkerShare (worker : ℕ) (h : List Entry) : Type 0 where
-  pub tasks : AllByRecursion (λ move. IsTask move.entry.what) (moves_by (Worker worker) h)
+  pub tasks : AllByRecursion (λ move. IsTask move.place move.entry.what) (moves_by (Worker worker) h)
   pub order : Rise 0 (lines_of (moves_by (Worker worker) h))

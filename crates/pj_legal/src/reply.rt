@@ -22,7 +22,7 @@ pub enum Reply {
     Refused(Refusal),
 }
 
-/// The text of a reply to the statement of this line, of the session of this name: one line, and then the
+/// The text of a reply that this line shows to the session of this name: one line, and then the
 /// lines that it announces. Takes time and memory linear in the text.
 #[tactic(auto, unfolding(crate::specs::Texts::reply_text))]
 pub fn reply_text(alloc: Global, line: u32, name: &Text, reply: &Reply) -> Result<Text, NoMemory>
