@@ -1,4 +1,4 @@
--- The forms of statements that are built (docs/GRAMMAR.md, "Forms that aren't built").
+-- The forms of statements that are built (docs/GRAMMAR.md, "What is built").
 use Rattle.std.specs.Prelude.{◌≡◌, []}
 use Rattle.std.specs.List.{AllByRecursion}
 use Rattle.pj_value.specs.declared.value.AggKind.TheVariants as aggregates

@@ -22,7 +22,7 @@ use Rattle.pj_legal.specs.Forms.{Course, Form, entry_of, history_full}
 use Rattle.pj_legal.specs.Shares.{SessionShare, WorkerShare, Went, Takes, NeverFall, Rise, IsTask, lines_of}
 use Rattle.pj_legal.specs.Legal.{IsActor, IsLegal, IsSession, IsPlayed, end_of, belongs_to, lines_run}
 use Rattle.pj_legal.specs.Full.{WasFullAt, TellsFull, KeepsLimit, next_line, HasNext}
-use Rattle.pj_legal.specs.Run.{Run, Ran, course, shown_at, cut}
+use Rattle.pj_legal.specs.Run.{Run, IsStep, course, shown_at, cut}
 use Rattle.pj_legal.specs.Joining.{AreNotBy}
 use Rattle.pj_legal.specs.Laws.{lines_said, AreNamed}
 use Rattle.pj_legal.proofs.MoveLemmas.{AreOn, AreOff, AreUpTo, AreBehind, AreBy, lines, moved_by}
@@ -86,7 +86,7 @@ AreOn-of said (e ∷ es) all = (ap (λ x. x.line) all.0, AreOn-of said es all.1)
 
 -- the moves of a statement that ran are its own
 AreOf-ran : (limit : ℕ) (place : List Entry) (said : Said) (added : List Entry) (reply : Reply)
-    → Ran limit place said added reply → AreOf said added
+    → IsStep limit place said added reply → AreOf said added
 AreOf-ran limit place said added reply ran =
     subst (AreOf said) (entries-moves_from place added)
     (MovesAreOf-form said (course place added reply) ran.form)
@@ -275,7 +275,7 @@ abbrev pub Goes : ℕ → (Said → Course → Type 0) → List Entry → Type 0
 Goes limit so h =
     (place : List Entry) (said : Said) (added new : List Entry) (reply : Reply) → said.shown ≡ Some said.line
     → h ≡ (place ++ added) ++ new → AreUpTo said.line (place ++ added) → AreBehind said.line new
-    → Ran limit place said added reply → so said (course place added reply)
+    → IsStep limit place said added reply → so said (course place added reply)
 
 Went-step : (so : Said → Course → Type 0) (mine : List Move) (said : Said) (saids : List Said) (shown : Shown)
     (replies : List Shown) (b c : Bool)
@@ -509,10 +509,10 @@ IsPlayed-cut limit n script replies h rise named run regular within =
 -- one more statement
 pub Run-push : (limit : ℕ) (place : List Entry) (saids : List Said) (replies : List Shown) (mid : List Entry)
     (said : Said) (added : List Entry) (reply : Reply)
-    → Run limit place saids replies mid → Ran limit mid said added reply
+    → Run limit place saids replies mid → IsStep limit mid said added reply
     → Run limit place (saids ++ said ∷ []) (replies ++ shown_at said reply ∷ []) (mid ++ added)
 Run-push limit place [] [] mid said added reply run ran =
-    (refl, (added, subst (λ from. Ran limit from said added reply) run ran, ap (λ es. es ++ added) run))
+    (refl, (added, subst (λ from. IsStep limit from said added reply) run ran, ap (λ es. es ++ added) run))
 Run-push limit place [] (r ∷ more) mid said added reply run ran = absurd run
 Run-push limit place (s ∷ saids) [] mid said added reply run ran = absurd run
 Run-push limit place (s ∷ saids) (r ∷ more) mid said added reply run ran =

@@ -23,7 +23,7 @@ use Rattle.pj_legal.specs.Statements.{Said, statements, Shown}
 use Rattle.pj_legal.specs.Shares.{Rise}
 use Rattle.pj_legal.specs.Legal.{IsLegal, IsPlayed}
 use Rattle.pj_legal.specs.Full.{KeepsLimit}
-use Rattle.pj_legal.specs.Run.{Run, Ran, shown_at, cut}
+use Rattle.pj_legal.specs.Run.{Run, IsStep, shown_at, cut}
 use Rattle.pj_legal.specs.Texts.{replies_text, shown_text, reply_text, announced}
 use Rattle.pj_legal.specs.Binding.{BodyReads, IsUnreadable, BodyBinds, BodyIsRefused}
 
@@ -56,7 +56,7 @@ abbrev pub RunGoesOn : Type 0
 RunGoesOn =
     (limit : ℕ) (place : List Entry) (saids : List Said) (replies : List Shown) (mid : List Entry)
     (said : Said) (added : List Entry) (reply : Reply)
-    → Run limit place saids replies mid → Ran limit mid said added reply
+    → Run limit place saids replies mid → IsStep limit mid said added reply
     → Run limit place (saids ++ said ∷ []) (replies ++ shown_at said reply ∷ []) (mid ++ added)
 
 -- the text of one more reply stands behind those of the others

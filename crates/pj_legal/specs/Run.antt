@@ -13,7 +13,7 @@ abbrev pub course : List Entry → List Entry → Reply → Course
 course place added reply = record { moves = moves_from place added; reply = Some reply }
 
 -- the statement ran from its place: it added these entries, and got this reply
-pub record Ran (limit : ℕ) (place : List Entry) (said : Said) (added : List Entry) (reply : Reply)
+pub record IsStep (limit : ℕ) (place : List Entry) (said : Said) (added : List Entry) (reply : Reply)
     : Type 0 where
   pub form : Form said (course place added reply)
   pub full : reply ≡ history_full → length place + length added ≡ limit
@@ -30,7 +30,7 @@ Run limit place [] (shown ∷ more) end = ⊥
 Run limit place (said ∷ saids) [] end = ⊥
 Run limit place (said ∷ saids) (shown ∷ more) end =
     (shown ≡ shown_at said shown.reply)
-    × ((added : List Entry) × Ran limit place said added shown.reply
+    × ((added : List Entry) × IsStep limit place said added shown.reply
     × Run limit (place ++ added) saids more end)
 
 -- the script with its first lines alone

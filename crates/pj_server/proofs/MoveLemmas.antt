@@ -46,7 +46,7 @@ use Rattle.pj_legal.specs.Statements.{Said, whole}
 use Rattle.pj_legal.specs.Forms.{Course, entry_of, no_memory, history_full, BoundForm, Form, StopsAfter}
 use Rattle.pj_legal.specs.Forms.{MayStarve, MovesOn}
 use Rattle.pj_legal.specs.Full.{HasNext}
-use Rattle.pj_legal.specs.Run.{Ran, course}
+use Rattle.pj_legal.specs.Run.{IsStep, course}
 use Rattle.pj_server.specs.declared.server.By.{By}
 use Rattle.pj_server.specs.Moves.{said_of, Adds, BoundFits, BoundStops, Fills, BoundDone}
 use Rattle.pj_server.specs.Moves.{Does, Serves, ChangesNothing, IsReadFault}
@@ -140,8 +140,8 @@ Serves-after a b c said reply none h =
     let same = entries-nil a b none in (
       h.0,
       Adds-trans a b c [] h.0 none h.1,
-      subst (λ es. Ran a.limit es said h.0 reply) same
-          (subst (λ l. Ran l b.entries said h.0 reply) none.limit h.2),
+      subst (λ es. IsStep a.limit es said h.0 reply) same
+          (subst (λ l. IsStep l b.entries said h.0 reply) none.limit h.2),
     )
 
 -- ---- statements that stop before their first move, or are refused by it

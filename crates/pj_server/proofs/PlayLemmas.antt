@@ -20,7 +20,7 @@ use Rattle.pj_journal.specs.Log.{Log, empty_log}
 use Rattle.pj_legal.specs.declared.reply.Reply.{Reply}
 use Rattle.pj_legal.specs.Statements.{Said, whole, body_of, statement_of, statements, Shown}
 use Rattle.pj_legal.specs.Shares.{Rise}
-use Rattle.pj_legal.specs.Run.{Ran, shown_at, cut}
+use Rattle.pj_legal.specs.Run.{IsStep, shown_at, cut}
 use Rattle.pj_legal.specs.Laws.{lines_said, AreNamed, RunsAreLegal, CutRunsAreLegal, RunGoesOn, TextsGoOn}
 use Rattle.pj_legal.specs.Texts.{as_line, name_at, reply_text, shown_text, replies_text, entries_text}
 use Rattle.pj_legal.specs.Texts.{history_text}
@@ -106,8 +106,8 @@ RunsLines-more goes_on texts end i old mid new names lines line a b c lt at so_f
     ∙ ap (λ l. map statement_of (take i lines) ++ statement_of l ∷ []) (sym at)
     ∙ ap (λ xs. xs ++ said ∷ []) (sym (take-map statement_of i lines)) in
     let added = one.serves.0 in
-    let ran : Ran old.limit mid.entries said added one.reply =
-    subst (λ l. Ran l mid.entries said added one.reply) so_far.limit one.serves.2 in
+    let ran : IsStep old.limit mid.entries said added one.reply =
+    subst (λ l. IsStep l mid.entries said added one.reply) so_far.limit one.serves.2 in
     let run =
     goes_on old.limit old.entries saids so_far.replies mid.entries said added one.reply so_far.run ran in
     let shown : Shown = shown_at said one.reply in

@@ -19,7 +19,7 @@ use Rattle.pj_legal.specs.Binding.{BodyIsRefused}
 use Rattle.pj_legal.specs.Statements.{Said, whole}
 use Rattle.pj_legal.specs.Forms.{entry_of, BoundForm, MayStarve, MovesOn, no_memory, history_full}
 use Rattle.pj_legal.specs.Full.{HasNext}
-use Rattle.pj_legal.specs.Run.{Ran, course}
+use Rattle.pj_legal.specs.Run.{IsStep, course}
 use Rattle.pj_server.specs.declared.server.By.{By}
 
 -- the statement of a session and a line, its body aside
@@ -34,7 +34,7 @@ pub record Adds (old new : Log) (added : List Entry) : Type 0 where
 -- the statement made its moves and got its reply
 abbrev pub Serves : Log → Log → Said → Reply → Type 0
 Serves old new said reply =
-    (added : List Entry) × Adds old new added × Ran old.limit old.entries said added reply
+    (added : List Entry) × Adds old new added × IsStep old.limit old.entries said added reply
 
 -- the bound statement fits these tables
 abbrev pub BoundFits : List Table → Bound → Type 0
