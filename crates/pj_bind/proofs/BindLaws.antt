@@ -135,7 +135,8 @@ module _ (table : Table) (select : TreeSelect) where
           (λ no_query. no_query query asks.kinds),
       (
         when-none NotAnAggregate (BreaksGroups table select)
-            (λ breaks. breaks.2 (subst KeepsGroups (KindsAre-one query breaks.0 asks.kinds breaks.1) asks.groups)),
+            (λ breaks. breaks.2
+            (subst KeepsGroups (KindsAre-one query breaks.0 asks.kinds breaks.1) asks.groups)),
         tt,
       ),
     ),

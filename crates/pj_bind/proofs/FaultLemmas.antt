@@ -155,7 +155,8 @@ module _ (table : Table) (select : TreeSelect) (query : Query) (known : AreKnown
       kinds : KindsAre table select query
       kinds = record { made = made; kept = kept }
 
-      by : (s : Result Query BindFault) → IfErr s (IsFault (λ x. (x ≡ NotAnAggregate) × (KeepsGroups query → ⊥)))
+      by : (s : Result Query BindFault)
+          → IfErr s (IsFault (λ x. (x ≡ NotAnAggregate) × (KeepsGroups query → ⊥)))
           → IfErr s (IsFault (First (asked_of table (select_causes select))))
       by (Ok q) is = tt
       by (Err (faults.Refused x)) is =

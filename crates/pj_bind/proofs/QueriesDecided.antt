@@ -1,6 +1,6 @@
 -- Whether a query keeps the kinds of its columns, and its groups.
-use Rattle.std.proofs.Common.{◌≡◌, ℕ, zero, suc, ◌<◌, List, [], ◌∷◌, length, Bool, true, false, Option, Some, None}
-use Rattle.std.proofs.Common.{Contains, refl, sym, ap, ◌∙◌, subst, inl, inr, arith}
+use Rattle.std.proofs.Common.{◌≡◌, ℕ, zero, suc, ◌<◌, List, [], ◌∷◌, length, Bool, true, false}
+use Rattle.std.proofs.Common.{Option, Some, None, Contains, refl, sym, ap, ◌∙◌, subst, inl, inr, arith}
 use Rattle.std.specs.Prelude.{slice_index_or}
 use Rattle.std.specs.List.{AllByRecursion}
 use Rattle.std.proofs.lemmas.Bool.{false≢true}
@@ -39,7 +39,8 @@ module _ (columns : List Kind) where
     where
       by : (o : Option Kind) → Decided (o ≡ Some kind)
       by (Some other) =
-          decided-by (λ same. ap (λ k. Some k) same) (λ same. same_Some other kind same) (decided-kind other kind)
+          decided-by (λ same. ap (λ k. Some k) same) (λ same. same_Some other kind same)
+          (decided-kind other kind)
       by None = inr (λ e. none-some kind e)
 
   -- an argument that must be there
@@ -102,7 +103,8 @@ told (Expr-F.Add a b) (Expr-F.Add c d) =
 told (Expr-F.Mul a b) (Expr-F.Mul c d) =
     decided-by (λ e. (λ i. Expr-F.Mul (e.0 i) (e.1 i))) (λ e. (cc, cc)) (decided-both (a.1 c) (b.1 d))
 told (Expr-F.IntDiv a m) (Expr-F.IntDiv b n) =
-    decided-by (λ e. (λ i. Expr-F.IntDiv (e.0 i) (e.1 i))) (λ e. (cc, cc)) (decided-both (a.1 b) (decided-nat m n))
+    decided-by (λ e. (λ i. Expr-F.IntDiv (e.0 i) (e.1 i))) (λ e. (cc, cc))
+    (decided-both (a.1 b) (decided-nat m n))
 told (Expr-F.Mod a m) (Expr-F.Mod b n) =
     decided-by (λ e. (λ i. Expr-F.Mod (e.0 i) (e.1 i))) (λ e. (cc, cc)) (decided-both (a.1 b) (decided-nat m n))
 told y z = inr (λ e. cc)

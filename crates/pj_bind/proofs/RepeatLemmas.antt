@@ -50,7 +50,9 @@ IsFirstRepeat-one names a b f g =
 -- a name repeats among the first so many, or none does
 repeats-or-none : (names : List Name) (n : ℕ) → n ≤ length names
     → ((name : Name) × IsFirstRepeat names name) ⊎ NoneRepeats (take n names)
-repeats-or-none names zero le = inr (λ at name there among. omega (arith, among.1, length-take at (take 0 names), length-take 0 names))
+repeats-or-none names zero le =
+    inr (λ at name there among.
+    omega (arith, among.1, length-take at (take 0 names), length-take 0 names))
 repeats-or-none names (suc n) le =
     by (repeats-or-none names n (omega arith)) (decided-Contains (take n names) (get_or names n d))
   where

@@ -110,7 +110,8 @@ settings-all ts settings rule =
     subst (AllByRecursion IsSetting) (sym rule.other.is) (by rule.front rule.found rule.one)
   where
     by : (front : List Lexeme) (list : Option (List TableWord))
-        → optional (behind (keyword (codes "SETTINGS")) (listed table_set)) front list → AllByRecursion IsSetting (or_empty list)
+        → optional (behind (keyword (codes "SETTINGS")) (listed table_set)) front list
+        → AllByRecursion IsSetting (or_empty list)
     by front list (inl found) =
         subst (λ o. AllByRecursion IsSetting (or_empty o)) (sym found.other.is)
         (listed-all table_set IsSetting IsSetting-from found.one.back found.found found.one.other)

@@ -145,7 +145,8 @@ body_read_or_not body =
 
 -- and binds, or is refused
 pub body_bound_or_refused : (tables : List Table) (body : List ℕ)
-    → ((bound : Bound) × BodyBinds tables body bound) ⊎ ((refusal : Refusal) × BodyIsRefused tables body refusal)
+    → ((bound : Bound) × BodyBinds tables body bound)
+    ⊎ ((refusal : Refusal) × BodyIsRefused tables body refusal)
 body_bound_or_refused tables body =
     elim (body_read_or_not body) [
       | inl (statement, reads) ↦

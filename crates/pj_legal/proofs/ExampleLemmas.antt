@@ -31,32 +31,45 @@ create_form given =
       form = (refl, refl);
     }))
 
+-- the INSERT is done, though another entry stands between its two
+insert_form : (given : Given) (between : Entry) (shown : Option ℕ)
+    → Form (record { line = 2; session = 0; body = given.insert; shown = shown }) (record {
+      moves =
+          record {
+            place = entry (Session 0) 1 (Created given.table) ∷ [];
+            entry = entry (Session 0) 2 (Begun 0);
+          }
+          ∷ record {
+            place =
+                entry (Session 0) 1 (Created given.table) ∷ entry (Session 0) 2 (Begun 0) ∷ between ∷ [];
+            entry = entry (Session 0) 2 (Inserted 0 1 given.rows);
+          }
+          ∷ [];
+      reply = Some Done;
+    })
+insert_form given between shown =
+    inr (inl (record {
+      place = entry (Session 0) 1 (Created given.table) ∷ [];
+      bound = bounds.Insert 0 given.rows;
+      binds = given.inserts;
+      form = (
+        entry (Session 0) 1 (Created given.table) ∷ entry (Session 0) 2 (Begun 0) ∷ between ∷ [],
+        1,
+        refl,
+        refl,
+      );
+    }))
+
 pub another_session : (given : Given)
     → SessionShare 0 (inserting given (Some 4)) (inserted given (entry (Session 1) 3 (Looked 0) ∷ []))
     (done_at 1 ∷ done_at 4 ∷ [])
 another_session given = record {
-  owned =
-      ((0, omega arith, refl), ((1, omega arith, refl), ((1, omega arith, refl), tt)));
+  owned = ((0, omega arith, refl), ((1, omega arith, refl), ((1, omega arith, refl), tt)));
   order = (omega arith, (omega arith, (omega arith, tt)));
   answered = (
     refl,
     create_form given,
-    (
-      refl,
-      inr (inl (record {
-        place = entry (Session 0) 1 (Created given.table) ∷ [];
-        bound = bounds.Insert 0 given.rows;
-        binds = given.inserts;
-        form = (
-          entry (Session 0) 1 (Created given.table) ∷ entry (Session 0) 2 (Begun 0)
-              ∷ entry (Session 1) 3 (Looked 0) ∷ [],
-          1,
-          refl,
-          refl,
-        );
-      })),
-      refl,
-    ),
+    (refl, insert_form given (entry (Session 1) 3 (Looked 0)) (Some 4), refl),
   );
 }
 
@@ -64,28 +77,12 @@ pub a_worker : (given : Given)
     → SessionShare 0 (inserting given (Some 2)) (inserted given (entry (Worker 1) 2 (Begun 0) ∷ []))
     (done_at 1 ∷ done_at 2 ∷ [])
 a_worker given = record {
-  owned =
-      ((0, omega arith, refl), ((1, omega arith, refl), ((1, omega arith, refl), tt)));
+  owned = ((0, omega arith, refl), ((1, omega arith, refl), ((1, omega arith, refl), tt)));
   order = (omega arith, (omega arith, (omega arith, tt)));
   answered = (
     refl,
     create_form given,
-    (
-      refl,
-      inr (inl (record {
-        place = entry (Session 0) 1 (Created given.table) ∷ [];
-        bound = bounds.Insert 0 given.rows;
-        binds = given.inserts;
-        form = (
-          entry (Session 0) 1 (Created given.table) ∷ entry (Session 0) 2 (Begun 0)
-              ∷ entry (Worker 1) 2 (Begun 0) ∷ [],
-          1,
-          refl,
-          refl,
-        );
-      })),
-      refl,
-    ),
+    (refl, insert_form given (entry (Worker 1) 2 (Begun 0)) (Some 2), refl),
   );
 }
 

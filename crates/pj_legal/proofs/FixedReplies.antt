@@ -348,7 +348,8 @@ shapes_are : (said : Said) (ms : List Move) (r s : Reply)
     → Form said (record { moves = ms; reply = Some r }) → Form said (record { moves = ms; reply = Some s })
     → HaveOneShape r s
 shapes_are said ms (replies.Rows out) (replies.Rows other) a b =
-    kinds_are said ms out other (of_form said (record { moves = ms; reply = Some (replies.Rows out) }) out refl a)
+    kinds_are said ms out other
+    (of_form said (record { moves = ms; reply = Some (replies.Rows out) }) out refl a)
     (of_form said (record { moves = ms; reply = Some (replies.Rows other) }) other refl b)
 shapes_are said ms replies.Done s a b = tt
 shapes_are said ms (replies.Refused refusal) s a b = tt

@@ -151,7 +151,8 @@ All-sessions P count (shown ∷ more) heard each =
     let mine = each shown.session heard.0 in
     let rest = shown_to shown.session more in
     let first : AllByRecursion P (shown ∷ rest) =
-    subst (λ b. AllByRecursion P (cond b (shown ∷ rest) rest)) (eq-eqb shown.session shown.session refl) mine in (
+    subst (λ b. AllByRecursion P (cond b (shown ∷ rest) rest)) (eq-eqb shown.session shown.session refl)
+    mine in (
       first.0,
       All-sessions P count more heard.1 (λ session there.
           All-tail P (shown.session == session) shown (shown_to session more) (each session there)),

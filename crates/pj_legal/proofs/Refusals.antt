@@ -38,8 +38,8 @@ module _ (P : Refusal → Type 0) where
       → ((name : Name) → fact name → P (telling name)) → Gives P (telling naming fact)
   gives_naming telling fact holds refusal h = subst P (sym h.1) (holds h.0 h.2)
 
-  gives_at : (tables : List Table) (name : Name) (cause : Table → Cause) → ((table : Table) → Gives P (cause table))
-      → Gives P (At tables name cause)
+  gives_at : (tables : List Table) (name : Name) (cause : Table → Cause)
+      → ((table : Table) → Gives P (cause table)) → Gives P (At tables name cause)
   gives_at tables name cause holds refusal h = holds h.1 refusal h.3
 
 -- ---- a full journal
@@ -92,11 +92,13 @@ no_history tables (statements.Select select) = (
   (
     gives_when NotHistory (UnknownTable select.table) _ (λ h e. cc),
     (
-      gives_at NotHistory tables select.table _ (λ table. gives_naming NotHistory UnknownIdentifier _ (λ n h e. cc)),
+      gives_at NotHistory tables select.table _
+          (λ table. gives_naming NotHistory UnknownIdentifier _ (λ n h e. cc)),
       (
         gives_at NotHistory tables select.table _ (λ table. gives_when NotHistory TypeMismatch _ (λ h e. cc)),
         (
-          gives_at NotHistory tables select.table _ (λ table. gives_when NotHistory NotAnAggregate _ (λ h e. cc)),
+          gives_at NotHistory tables select.table _
+              (λ table. gives_when NotHistory NotAnAggregate _ (λ h e. cc)),
           tt,
         ),
       ),
@@ -112,7 +114,8 @@ no_history tables (statements.Merge name) = (gives_when NotHistory NotBuilt _ (�
 no_history tables (statements.Mutate name) = (gives_when NotHistory NotBuilt _ (λ h e. cc), tt)
 
 -- no body is refused for it
-pub BodyIsRefused-history : (tables : List Table) (body : List ℕ) → BodyIsRefused tables body (Limit History) → ⊥
+pub BodyIsRefused-history : (tables : List Table) (body : List ℕ) → BodyIsRefused tables body (Limit History)
+    → ⊥
 BodyIsRefused-history tables body (inl unreadable) = unreadable
 BodyIsRefused-history tables body (inr (s, reads, is)) =
     First-each NotHistory (causes tables s) (no_history tables s) (Limit History) is refl
@@ -164,11 +167,14 @@ module _ (P : Name → Type 0) where
         (
           gives_when Names (Limit Columns) _ (λ h. tt),
           (
-            gives_naming Names DuplicateColumn _ (λ n h. repeats (new_names columns) n (All-front P (new_names columns) key all.1) h),
+            gives_naming Names DuplicateColumn _
+                (λ n h. repeats (new_names columns) n (All-front P (new_names columns) key all.1) h),
             (
-              gives_naming Names DuplicateColumn _ (λ n h. repeats key n (All-back P (new_names columns) key all.1) h),
+              gives_naming Names DuplicateColumn _
+                  (λ n h. repeats key n (All-back P (new_names columns) key all.1) h),
               (
-                gives_naming Names UnknownIdentifier _ (λ n h. unknown (new_names columns) key n (All-back P (new_names columns) key all.1) h),
+                gives_naming Names UnknownIdentifier _
+                    (λ n h. unknown (new_names columns) key n (All-back P (new_names columns) key all.1) h),
                 tt,
               ),
             ),
@@ -182,9 +188,11 @@ module _ (P : Name → Type 0) where
     (
       gives_when Names (UnknownTable name) _ (λ h. all.0),
       (
-        gives_at Names tables name _ (λ table. gives_naming Names DuplicateColumn _ (λ n h. repeats (listed_names listed) n all.1 h)),
+        gives_at Names tables name _
+            (λ table. gives_naming Names DuplicateColumn _ (λ n h. repeats (listed_names listed) n all.1 h)),
         (
-          gives_at Names tables name _ (λ table. gives_naming Names UnknownIdentifier _ (λ n h. unknown (column_names table.columns) (listed_names listed) n all.1 h)),
+          gives_at Names tables name _ (λ table. gives_naming Names UnknownIdentifier _
+              (λ n h. unknown (column_names table.columns) (listed_names listed) n all.1 h)),
           (
             gives_at Names tables name _ (λ table. gives_when Names TypeMismatch _ (λ h. tt)),
             tt,
@@ -198,7 +206,8 @@ module _ (P : Name → Type 0) where
     (
       gives_when Names (UnknownTable select.table) _ (λ h. all.0),
       (
-        gives_at Names tables select.table _ (λ table. gives_naming Names UnknownIdentifier _ (λ n h. unknown (column_names table.columns) (column_names_of select) n all.1 h)),
+        gives_at Names tables select.table _ (λ table. gives_naming Names UnknownIdentifier _
+            (λ n h. unknown (column_names table.columns) (column_names_of select) n all.1 h)),
         (
           gives_at Names tables select.table _ (λ table. gives_when Names TypeMismatch _ (λ h. tt)),
           (

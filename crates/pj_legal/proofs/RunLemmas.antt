@@ -169,7 +169,8 @@ pub record HasAdded (low : ℕ) (place : List Entry) (saids : List Said) (replie
   pub heard : (count : ℕ) → AreWithin count saids → AllByRecursion (λ shown. shown.session < count) replies
   pub owned :
       (session : ℕ)
-      → AllByRecursion (IsFor (said_by session saids)) (filter (moved_by (Session session)) (moves_from place new))
+      → AllByRecursion (IsFor (said_by session saids))
+      (filter (moved_by (Session session)) (moves_from place new))
 
 -- a statement's moves, and those that were made behind it
 owned-append : (said : Said) (saids : List Said) (place added new : List Entry) (session : ℕ)
@@ -244,7 +245,8 @@ HasAdded-run limit low place (said ∷ saids) (shown ∷ more) h rise run =
     to : shown.session ≡ said.session
     to = ap (λ (s : Shown). s.session) run.0
 
-    joined : HasAdded said.line (place ++ added) saids more h → HasAdded low place (said ∷ saids) (shown ∷ more) h
+    joined : HasAdded said.line (place ++ added) saids more h
+        → HasAdded low place (said ∷ saids) (shown ∷ more) h
     joined rest = record {
       new = added ++ rest.new;
       grown = rest.grown ∙ append_assoc place added rest.new;

@@ -32,10 +32,11 @@ entry_of said what = record { actor = Session said.session; line = said.line; wh
 abbrev pub move_of : Said → List Entry → What → Move
 move_of said place what = record { place = place; entry = entry_of said what }
 
--- the replies that there was no memory, and that the journal was full
+-- the reply to a statement that met want of memory
 abbrev pub no_memory : Reply
 no_memory = replies.Refused refusals.NoMemory
 
+-- and to one that met a full journal
 abbrev pub history_full : Reply
 history_full = replies.Refused (refusals.Limit History)
 
@@ -93,7 +94,8 @@ StopsAfter sort said course =
     ⊎ ((place : List Entry) × (bound : Bound) × (what : What) × BodyBinds (catalog place) said.body bound
     × sort bound what × (course.moves ≡ move_of said place what ∷ []))
 
--- the statement is answered that there was no memory, before its first move or behind one that it may stop after
+-- the statement is answered that there was no memory, before its first move or behind one that it may stop
+-- after
 pub record IsStarved (said : Said) (course : Course) : Type 0 where
   pub stopped : StopsAfter MayStarve said course
   pub reply : course.reply ≡ Some no_memory

@@ -91,7 +91,8 @@ BodyReadOrNot =
 abbrev pub BodyBoundOrRefused : Type 0
 BodyBoundOrRefused =
     (tables : List Table) (body : List ℕ)
-    → ((bound : Bound) × BodyBinds tables body bound) ⊎ ((refusal : Refusal) × BodyIsRefused tables body refusal)
+    → ((bound : Bound) × BodyBinds tables body bound)
+    ⊎ ((refusal : Refusal) × BodyIsRefused tables body refusal)
 
 -- a body binds in one way at most
 abbrev pub OneBodyBound : Type 0

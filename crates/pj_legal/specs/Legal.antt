@@ -28,7 +28,8 @@ pub record IsLegal (script : Script) (h : List Entry) (replies : List Shown) : T
 
 -- the line that shows the reply to the statement of a line, and that line itself where none does
 abbrev pub end_of : List Said → ℕ → ℕ
-end_of saids line = unwrap_or (option_and_then (λ said. said.shown) (find (λ said. said.line == line) saids)) line
+end_of saids line =
+    unwrap_or (option_and_then (λ said. said.shown) (find (λ said. said.line == line) saids)) line
 
 -- the line to which a move belongs: a statement's first move to its own, and a further one to that which ends
 -- the statement

@@ -203,7 +203,8 @@ serves_refusal never a b said refusal refused adds = (
 
 -- the moves don't tell the body
 same_form : (place : List Entry) (line session : ℕ) (one other : List ℕ) (bound : Bound) (went : Course)
-    → BoundForm place (whole line session one) bound went → BoundForm place (whole line session other) bound went
+    → BoundForm place (whole line session one) bound went
+    → BoundForm place (whole line session other) bound went
 same_form place line session one other (bounds.Create table) went h = h
 same_form place line session one other (bounds.Insert table rs) went h = h
 same_form place line session one other (bounds.Select table query) went h = h

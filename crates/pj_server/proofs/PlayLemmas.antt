@@ -244,7 +244,14 @@ pub runs_script : (end : End) (limit : ℕ) (wanted : Bool) (bytes : List ℕ) (
     → IsScript Play bytes script
     → ScriptEnds end limit wanted script h a b → RunsSo end limit wanted bytes h a b
 runs_script Finished limit wanted bytes script h a b spelled e =
-    record { script = script; spelled = spelled; replies = e.replies; played = e.played; kept = e.kept; written = e.written }
+    record {
+      script = script;
+      spelled = spelled;
+      replies = e.replies;
+      played = e.played;
+      kept = e.kept;
+      written = e.written;
+    }
 runs_script SinkFailed limit wanted bytes script h a b spelled e =
     inr (record {
       script = script;

@@ -8,7 +8,8 @@ returns-clause-ends g c =
     let all = rw c.as_slice-2.ensures at ran.2 in
     let ends =
     script_ends c.runs_are_legal.ensures c.cut_runs.ensures c.args.limit c.args.wanted c.args.script.now
-    c.run_lines-lines.new.server c.requires.rise c.requires.named c.journal.ensures.regular c.journal.ensures.few
+    c.run_lines-lines.new.server c.requires.rise c.requires.named c.journal.ensures.regular
+    c.journal.ensures.few
     c.run_lines-lines.result c.finish-end.result ran.0 _ _ _ lines all
     (rw c.journal.ensures.journal at c.finish-end.ensures.end) in
     rw c.into_journal.ensures ends

@@ -2,11 +2,13 @@ use Rattle.std.proofs.Common.{subst}
 use Rattle.pj_journal.specs.History.{catalog}
 use Rattle.pj_legal.specs.Statements.{whole}
 use Rattle.pj_server.specs.Moves.{IsReadFault}
-use Rattle.pj_server.proofs.MoveLemmas.{body_fits, serves_bound, serves_no_memory, serves_refusal, below-full, Adds-nil}
+use Rattle.pj_server.proofs.MoveLemmas.{body_fits, serves_bound, serves_no_memory, serves_refusal}
+use Rattle.pj_server.proofs.MoveLemmas.{below-full, Adds-nil}
 use Rattle.pj_server.proofs.server.Server.first_move.Goals as goal
 
 pub run_bound-requires-clause-fits : goal.run_bound-requires-clause-fits
-run_bound-requires-clause-fits c = body_fits c.bound_tables_fit.ensures _ c.args.body.now c.in-Ok.bound c.in-Ok.ensures.bound
+run_bound-requires-clause-fits c =
+    body_fits c.bound_tables_fit.ensures _ c.args.body.now c.in-Ok.bound c.in-Ok.ensures.bound
 
 pub returns-in-Ok : goal.returns-in-Ok
 returns-in-Ok c =
