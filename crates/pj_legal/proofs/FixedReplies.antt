@@ -32,7 +32,8 @@ use Rattle.pj_legal.specs.Texts.{name_at, announced, following, reply_text, repl
 use Rattle.pj_legal.specs.Laws.{lines_said, IsPlain}
 use Rattle.pj_legal.specs.ToldReplies.{IsClean, HaveOneShape, FitsReply, TextFixesReplies}
 use Rattle.pj_legal.proofs.BodyLaws.{BodyBinds-one, one_meaning}
-use Rattle.pj_legal.proofs.PlainReplies.{IsLegal-plain}
+use Rattle.pj_legal.proofs.LegalNames.{slice_get_push}
+use Rattle.pj_legal.proofs.PlainReplies.{All-sessions, IsLegal-plain}
 use Rattle.pj_legal.proofs.RunLemmas.{AreWhole}
 use Rattle.pj_legal.proofs.TextLaws.{reply_text-same}
 use Rattle.pj_legal.proofs.ToldLemmas.{reply_text-told}
@@ -47,14 +48,6 @@ Differ names =
 -- names of sessions, no two of which are one
 abbrev AreNames : List (List ℕ) → Type 0
 AreNames names = AllByRecursion IsName names × Differ names
-
-slice_get_push : {X : Type 0} (xs : List X) (x : X) (i : ℕ) (y : X) → slice_get (xs ++ x ∷ []) i ≡ Some y
-    → (slice_get xs i ≡ Some y) ⊎ ((i ≡ length xs) × (x ≡ y))
-slice_get_push [] x zero y here = inr (refl, same_Some x y here)
-slice_get_push [] x (suc i) y here = absurd (none-some y here)
-slice_get_push (z ∷ xs) x zero y here = inl here
-slice_get_push (z ∷ xs) x (suc i) y here =
-    elim (slice_get_push xs x i y here) [ inl old ↦ inl old | inr last ↦ inr (ap suc last.0, last.1) ]
 
 Contains-get : (names : List (List ℕ)) (i : ℕ) (name : List ℕ) → slice_get names i ≡ Some name
     → Contains names name
@@ -243,27 +236,6 @@ Went-told mine [] rs went = subst (AllByRecursion (IsTold mine [])) (sym went) t
 Went-told mine (said ∷ saids) rs went =
     Takes-told said.shown mine said saids rs refl (Went-told mine saids) went
 
--- what holds of the replies to each session holds of all
-All-tail : (P : Shown → Type 0) (b : Bool) (shown : Shown) (more : List Shown)
-    → AllByRecursion P (cond b (shown ∷ more) more) → AllByRecursion P more
-All-tail P true shown more all = all.1
-All-tail P false shown more all = all
-
-All-heard : (P : ℕ → Shown → Type 0) (count : ℕ) (rs : List Shown)
-    → AllByRecursion (λ shown. shown.session < count) rs
-    → ((session : ℕ) → session < count → AllByRecursion (P session) (shown_to session rs))
-    → AllByRecursion (λ shown. P shown.session shown) rs
-All-heard P count [] heard each = tt
-All-heard P count (r ∷ rs) heard each =
-    let rest = shown_to r.session rs in
-    let first : AllByRecursion (P r.session) (r ∷ rest) =
-    subst (λ b. AllByRecursion (P r.session) (cond b (r ∷ rest) rest)) (eq-eqb r.session r.session refl)
-    (each r.session heard.0) in (
-      first.0,
-      All-heard P count rs heard.1 (λ session there.
-          All-tail (P session) (r.session == session) r (shown_to session rs) (each session there)),
-    )
-
 -- ---- the kinds of a reply's columns
 
 -- rows answer the query of a SELECT that looked, and have the kinds of its items
@@ -386,7 +358,7 @@ known_from : (script : Script) (h : List Entry) (rs : List Shown) → IsLegal sc
     → AllByRecursion (λ shown. FitsReply shown.reply) rs → AllByRecursion (IsKnown script h) rs
 known_from script h rs legal fits =
     AllKnown script h rs legal.heard
-    (All-heard
+    (All-sessions
     (λ session. IsTold (moves_by (Session session) h) (said_by session (statements script)))
     (length script.names) rs legal.heard
     (λ session there. Went-told (moves_by (Session session) h) (said_by session (statements script))

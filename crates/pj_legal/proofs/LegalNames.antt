@@ -30,7 +30,7 @@ Contains-names tables at table here = (
     long = length-map tables (λ t. t.name)
 
 -- an element of a longer list is one of the list, or the last
-slice_get_push : {X : Type 0} (xs : List X) (x : X) (i : ℕ) (y : X) → slice_get (xs ++ x ∷ []) i ≡ Some y
+pub slice_get_push : {X : Type 0} (xs : List X) (x : X) (i : ℕ) (y : X) → slice_get (xs ++ x ∷ []) i ≡ Some y
     → (slice_get xs i ≡ Some y) ⊎ ((i ≡ length xs) × (x ≡ y))
 slice_get_push [] x zero y here = inr (refl, same_Some x y here)
 slice_get_push [] x (suc i) y here = absurd (none-some y here)

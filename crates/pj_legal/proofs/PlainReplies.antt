@@ -142,26 +142,25 @@ All-tail : (P : Shown → Type 0) (b : Bool) (shown : Shown) (more : List Shown)
 All-tail P true shown more all = all.1
 All-tail P false shown more all = all
 
-All-sessions : (P : Shown → Type 0) (count : ℕ) (replies : List Shown)
+pub All-sessions : (P : ℕ → Shown → Type 0) (count : ℕ) (replies : List Shown)
     → AllByRecursion (λ shown. shown.session < count) replies
-    → ((session : ℕ) → session < count → AllByRecursion P (shown_to session replies))
-    → AllByRecursion P replies
+    → ((session : ℕ) → session < count → AllByRecursion (P session) (shown_to session replies))
+    → AllByRecursion (λ shown. P shown.session shown) replies
 All-sessions P count [] heard each = tt
 All-sessions P count (shown ∷ more) heard each =
-    let mine = each shown.session heard.0 in
     let rest = shown_to shown.session more in
-    let first : AllByRecursion P (shown ∷ rest) =
-    subst (λ b. AllByRecursion P (cond b (shown ∷ rest) rest)) (eq-eqb shown.session shown.session refl)
-    mine in (
+    let first : AllByRecursion (P shown.session) (shown ∷ rest) =
+    subst (λ b. AllByRecursion (P shown.session) (cond b (shown ∷ rest) rest))
+    (eq-eqb shown.session shown.session refl) (each shown.session heard.0) in (
       first.0,
       All-sessions P count more heard.1 (λ session there.
-          All-tail P (shown.session == session) shown (shown_to session more) (each session there)),
+          All-tail (P session) (shown.session == session) shown (shown_to session more) (each session there)),
     )
 
 -- nor do those of a legal history
 pub IsLegal-plain : (script : Script) (h : List Entry) (replies : List Shown) → IsLegal script h replies
     → AllByRecursion (λ shown. IsPlain shown.reply) replies
 IsLegal-plain script h replies legal =
-    All-sessions ShowsPlain (length script.names) replies legal.heard (λ session there.
+    All-sessions (λ session. ShowsPlain) (length script.names) replies legal.heard (λ session there.
     Went-plain (moves_by (Session session) h) (said_by session (statements script)) (shown_to session replies)
     (legal.sessions session there).answered)
