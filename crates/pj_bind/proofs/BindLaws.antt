@@ -4,10 +4,10 @@ use Rattle.std.proofs.Common.{subst, ⊎_elim, inl, inr, arith}
 use Rattle.std.proofs.lemmas.Bool.{cases_lt}
 use Rattle.std.proofs.lemmas.Option.{same_Some}
 use Rattle.pj_value.specs.declared.value.Value.{Value}
-use Rattle.pj_parse.specs.declared.types.Statement.{Statement}
-use Rattle.pj_parse.specs.declared.types.Statement.TheVariants as statements
-use Rattle.pj_parse.specs.declared.types.TreeColumn.{TreeColumn}
-use Rattle.pj_parse.specs.declared.types.TreeSelect.{TreeSelect}
+use Rattle.pj_grammar.specs.declared.types.Statement.{Statement}
+use Rattle.pj_grammar.specs.declared.types.Statement.TheVariants as statements
+use Rattle.pj_grammar.specs.declared.types.TreeColumn.{TreeColumn}
+use Rattle.pj_grammar.specs.declared.types.TreeSelect.{TreeSelect}
 use Rattle.pj_expr.specs.declared.query.Query.{Query}
 use Rattle.pj_expr.specs.declared.table.Table.{Table}
 use Rattle.pj_expr.specs.Tables.{names, kinds_of}
@@ -31,7 +31,7 @@ use Rattle.pj_bind.specs.Laws.{OneRefusal, OneBound, NoBoundIsRefused, BoundOrRe
 use Rattle.pj_bind.proofs.Decided.{holds}
 use Rattle.pj_bind.proofs.RepeatLemmas.{NoneRepeats-from_none}
 use Rattle.pj_bind.proofs.RepeatLemmas.{known-from_none}
-use Rattle.pj_bind.proofs.TableLemmas.{unknown-or-at, place-same, table-same}
+use Rattle.pj_bind.proofs.TableLemmas.{unknown-or-at, number-same, table-same}
 use Rattle.pj_bind.proofs.FaultLemmas.{repeat-none, unknown-none}
 use Rattle.pj_bind.proofs.FillingDecided.{decided-FillColumns}
 use Rattle.pj_bind.proofs.QueriesDecided.{decided-KeepsGroups}
@@ -178,11 +178,11 @@ module _ (tables : List Table) where
 
   -- a table that isn't unknown is there
   there : (name : Name) → GivesNone (UnknownTable name when IsUnknown tables name)
-      → (place : ℕ) × (table : Table) × IsTableAt tables name place table
+      → (number : ℕ) × (table : Table) × IsTableAt tables name number table
   there name none =
       elim (unknown-or-at tables name) [
         | inl unknown ↦ absurd (none (UnknownTable name) (refl, unknown))
-        | inr (place, (table, at)) ↦ (place, table, at)
+        | inr (number, (table, at)) ↦ (number, table, at)
       ]
 
   -- a statement of a built form with none binds
@@ -193,22 +193,22 @@ module _ (tables : List Table) where
     (CanBeCreated-from_none tables name columns key none, refl),
   )
   IsBound-from_none (statements.Insert name listed rows) built none =
-      let (place, table, at) = there name none.0 in
+      let (number, table, at) = there name none.0 in
       let fill =
       FillColumns-from_none table listed rows
-      (asked_of-none tables name place table at (insert_causes listed rows) none.1) in (
-        bounds.Insert place (record {
+      (asked_of-none tables name number table at (insert_causes listed rows) none.1) in (
+        bounds.Insert number (record {
           kinds = kinds_of table;
           rows = filled_rows table.columns listed rows;
         }),
-        (place, table, at, fill.0, fill.1, refl),
+        (number, table, at, fill.0, fill.1, refl),
       )
   IsBound-from_none (statements.Select select) built none =
-      let (place, table, at) = there select.table none.0 in
+      let (number, table, at) = there select.table none.0 in
       let (query, asks) =
       Asks-from_none table select
-      (asked_of-none tables select.table place table at (select_causes select) none.1) in
-      (bounds.Select place query, (place, table, at, (query, asks, refl)))
+      (asked_of-none tables select.table number table at (select_causes select) none.1) in
+      (bounds.Select number query, (number, table, at, (query, asks, refl)))
   IsBound-from_none statement built none = absurd built
 
   -- a statement binds in one way
@@ -217,21 +217,21 @@ module _ (tables : List Table) where
   IsBound-one (statements.Create name columns projections key settings) a b r s = r.1 ∙ sym s.1
   IsBound-one (statements.Insert name columns rows) a b (i, s, here, are, fill, is)
       (j, t, at, also, filled, made) =
-      let place : i ≡ j = place-same tables name i j s t here at in
+      let number : i ≡ j = number-same tables name i j s t here at in
       let table : s ≡ t = table-same tables name i j s t here at in
       is
       ∙ ap (λ (k : ℕ). bounds.Insert k
-      (record { kinds = kinds_of s; rows = filled_rows s.columns columns rows })) place
+      (record { kinds = kinds_of s; rows = filled_rows s.columns columns rows })) number
       ∙ ap (λ (x : Table). bounds.Insert j
       (record { kinds = kinds_of x; rows = filled_rows x.columns columns rows })) table
       ∙ sym made
   IsBound-one (statements.Select select) a b (i, s, here, (p, asks, is)) (j, t, at, (q, too, made)) =
-      let place : i ≡ j = place-same tables select.table i j s t here at in
+      let number : i ≡ j = number-same tables select.table i j s t here at in
       let table : s ≡ t = table-same tables select.table i j s t here at in
       let query : p ≡ q =
       KindsAre-one t select p q
       (subst (λ (x : Table). KindsAre x select p) table asks.kinds) too.kinds in
-      is ∙ ap (λ (k : ℕ). bounds.Select k p) place ∙ ap (λ (x : Query). bounds.Select j x) query ∙ sym made
+      is ∙ ap (λ (k : ℕ). bounds.Select k p) number ∙ ap (λ (x : Query). bounds.Select j x) query ∙ sym made
   IsBound-one statement a b r s = absurd r
 
 -- ---- the laws
@@ -267,19 +267,12 @@ bound_or_refused tables statement =
 -- a query with its kinds and its groups fits
 fits : (table : Table) (select : TreeSelect) (query : Query) → Asks table select query
     → FitsQuery (kinds_of table) query
-fits table select query asks = record {
-  filter = asks.kinds.kept.filter;
-  items = asks.kinds.kept.items;
-  groups = asks.kinds.kept.groups;
-  order = asks.kinds.kept.order;
-  items_of_group = asks.groups.items;
-  order_of_group = asks.groups.order;
-}
+fits table select query asks = record { kinds = asks.kinds.kept; groups = asks.groups }
 
 -- the query that a SELECT binds to fits its table
 pub bound_queries_fit : BoundQueriesFit
-bound_queries_fit tables select place query (i, table, here, (made, asks, is)) =
-    let same : place ≡ i = cc in
+bound_queries_fit tables select number query (i, table, here, (made, asks, is)) =
+    let same : number ≡ i = cc in
     let other : made ≡ query = cc in (
       table,
       subst (λ (k : ℕ). IsTableAt tables select.table k table) (sym same) here,

@@ -6,8 +6,8 @@ use Rattle.std.specs.Option.{is_some}
 use Rattle.std.proofs.lemmas.Bool.{false≢true}
 use Rattle.std.proofs.lemmas.Option.{same_Some, none-some}
 use Rattle.pj_value.specs.declared.text.Text.{Text}
-use Rattle.pj_parse.specs.declared.types.TreeColumn.{TreeColumn}
-use Rattle.pj_parse.specs.declared.types.TreeSelect.{TreeSelect}
+use Rattle.pj_grammar.specs.declared.types.TreeColumn.{TreeColumn}
+use Rattle.pj_grammar.specs.declared.types.TreeSelect.{TreeSelect}
 use Rattle.pj_expr.specs.declared.query.Query.{Query}
 use Rattle.pj_expr.specs.declared.table.Table.{Table}
 use Rattle.pj_expr.specs.Tables.{names, kinds_of}
@@ -48,14 +48,14 @@ module _ (tables : List Table) (name : Name) where
   -- a table was found
   pub table-found : (o : Option ℕ) → is_some o ≡ true
       → MatchOption o (IsUnknown tables name) (IsAt tables name) → Contains (names tables) name
-  table-found (Some place) e (table, at) = Contains-at tables name place table at.0 at.1
+  table-found (Some number) e (table, at) = Contains-at tables name number table at.0 at.1
   table-found None e unknown = absurd (false≢true e)
 
   -- none was, and there is room
   pub HasRoom-from : (columns : List TreeColumn) (o : Option ℕ) → is_some o ≡ false
       → MatchOption o (IsUnknown tables name) (IsAt tables name) → length tables < 64 → length columns ≤ 64
       → HasRoom tables name columns
-  HasRoom-from columns (Some place) e at left few = absurd (false≢true (sym e))
+  HasRoom-from columns (Some number) e at left few = absurd (false≢true (sym e))
   HasRoom-from columns None e unknown left few =
       record { unknown = unknown; tables_left = left; few_columns = few }
 

@@ -15,11 +15,11 @@ use Rattle.std.proofs.lemmas.Map.Text.{is_eq-slice_cmp}
 use Rattle.std.proofs.lemmas.Map.Views.{Contains-from_any, list_any-from_Contains}
 use Rattle.std.proofs.lemmas.Option.{slice_get_within, slice_get-get_or, get_or_from_slice_get}
 use Rattle.std.proofs.lemmas.Slice.Eq.{bytes_eq-Decides}
-use Rattle.pj_parse.specs.declared.types.Tree.{Tree}
-use Rattle.pj_parse.specs.declared.types.Tree.TheVariants as trees
-use Rattle.pj_parse.specs.declared.types.Tree.TheOpen.{Tree-F}
-use Rattle.pj_parse.specs.declared.types.Tree.TheFolds.{fold-roll-Tree}
-use Rattle.pj_parse.specs.declared.types.TreeOp.{TreeOp}
+use Rattle.pj_grammar.specs.declared.types.Tree.{Tree}
+use Rattle.pj_grammar.specs.declared.types.Tree.TheVariants as trees
+use Rattle.pj_grammar.specs.declared.types.Tree.TheOpen.{Tree-F}
+use Rattle.pj_grammar.specs.declared.types.Tree.TheFolds.{fold-roll-Tree}
+use Rattle.pj_grammar.specs.declared.types.TreeOp.{TreeOp}
 use Rattle.pj_bind.specs.Names.{Name, names_in, names_step, is_among, first_unknown, NoneRepeats}
 
 -- ---- known and unknown

@@ -1,4 +1,4 @@
--- The table of a CREATE that is a line of the grammar: its key isn't empty, and its granules have a size.
+-- The table of a CREATE that is a statement: its key isn't empty, and its granules have a size.
 use Rattle.std.proofs.Common.{◌≡◌, ℕ, ◌<◌, ◌≤◌, List, [], ◌∷◌, length, fold, Bool, true, false}
 use Rattle.std.proofs.Common.{Option, Some, None, refl, sym, subst, inl, inr, arith}
 use Rattle.std.specs.Prelude.{◌&&◌, nat_le, nat_lt, cond, unwrap_or, codes}
@@ -6,27 +6,27 @@ use Rattle.std.specs.List.{AllByRecursion, position_or_len}
 use Rattle.std.specs.Str.{bytes_eq}
 use Rattle.std.proofs.lemmas.Bool.{false≢true, leb-true, ltb-true}
 use Rattle.std.proofs.lemmas.List.{length-map}
-use Rattle.pj_parse.specs.declared.types.Tree.{Tree}
-use Rattle.pj_parse.specs.declared.types.TreeColumn.{TreeColumn}
-use Rattle.pj_parse.specs.declared.types.TableWord.{TableWord}
-use Rattle.pj_parse.specs.declared.types.TableWord.TheVariants as table_words
-use Rattle.pj_parse.specs.declared.types.Statement.{Statement}
-use Rattle.pj_parse.specs.declared.types.Statement.TheVariants as statements
-use Rattle.pj_parse.specs.Lexemes.{Lexeme, word, number, text, symbol, is_number, number_of}
+use Rattle.pj_grammar.specs.declared.types.Tree.{Tree}
+use Rattle.pj_grammar.specs.declared.types.TreeColumn.{TreeColumn}
+use Rattle.pj_grammar.specs.declared.types.TableWord.{TableWord}
+use Rattle.pj_grammar.specs.declared.types.TableWord.TheVariants as table_words
+use Rattle.pj_grammar.specs.declared.types.Statement.{Statement}
+use Rattle.pj_grammar.specs.declared.types.Statement.TheVariants as statements
+use Rattle.pj_grammar.specs.Lexemes.{Lexeme, word, number, text, symbol, is_number, number_of}
 use Rattle.pj_lex.specs.declared.token.Symbol.TheVariants.{Comma}
-use Rattle.pj_parse.specs.Ebnf.{Grammar, many, optional}
-use Rattle.pj_parse.specs.GrammarWords as words
-use Rattle.pj_parse.specs.GrammarWords.{keyword, sign, behind, listed, or_empty}
-use Rattle.pj_parse.specs.GrammarSettings.{table_set}
-use Rattle.pj_parse.specs.GrammarTables as grammar
-use Rattle.pj_parse.specs.GrammarTables.{table_sets, create}
-use Rattle.pj_parse.specs.GrammarStatements.{statement}
+use Rattle.pj_grammar.specs.grammar.Ebnf.{Grammar, many, optional}
+use Rattle.pj_grammar.specs.grammar.Words as words
+use Rattle.pj_grammar.specs.grammar.Words.{keyword, sign, behind, listed, or_empty}
+use Rattle.pj_grammar.specs.grammar.Settings.{table_set}
+use Rattle.pj_grammar.specs.grammar.Tables as grammar
+use Rattle.pj_grammar.specs.grammar.Tables.{table_sets, create}
+use Rattle.pj_grammar.specs.grammar.Statements.{statement}
 use Rattle.pj_expr.specs.declared.table.ColumnDef.{ColumnDef}
 use Rattle.pj_expr.specs.declared.table.Table.{Table}
 use Rattle.pj_expr.specs.Tables.{granule_limit, TableFits}
 use Rattle.pj_bind.specs.declared.types.Bound.TheVariants as bounds
 use Rattle.pj_bind.specs.Names.{Name}
-use Rattle.pj_bind.specs.Meanings.{column_place}
+use Rattle.pj_bind.specs.Meanings.{column_number}
 use Rattle.pj_bind.specs.Tables.{column_of, columns_of, key_of, granularity_on, table_of}
 use Rattle.pj_bind.specs.Binding.{IsBound}
 use Rattle.pj_bind.specs.Laws.{BoundTablesFit}
@@ -150,10 +150,10 @@ statement-whole value ts s (inr (inr (inr (inr (inr (inr (inr (inr (inr rule))))
 
 -- ---- the table
 
--- a place of a column
-place-within : (columns : List ColumnDef) (name : Name) → 1 ≤ length columns
-    → unwrap_or (column_place columns name) 0 < length columns
-place-within columns name some = by (nat_lt at (length columns)) refl
+-- a number of a column
+number-within : (columns : List ColumnDef) (name : Name) → 1 ≤ length columns
+    → unwrap_or (column_number columns name) 0 < length columns
+number-within columns name some = by (nat_lt at (length columns)) refl
   where
     at : ℕ
     at = position_or_len (λ column. bytes_eq column.name name) columns
@@ -162,12 +162,12 @@ place-within columns name some = by (nat_lt at (length columns)) refl
     by true e = ltb-true at (length columns) e
     by false e = omega (arith, some)
 
--- the places of a key
-places-within : (columns : List ColumnDef) (names : List Name) → 1 ≤ length columns
-    → AllByRecursion (λ place. place < length columns) (key_of columns names)
-places-within columns [] some = tt
-places-within columns (name ∷ names) some =
-    (place-within columns name some, places-within columns names some)
+-- the numbers of a key
+numbers-within : (columns : List ColumnDef) (names : List Name) → 1 ≤ length columns
+    → AllByRecursion (λ column. column < length columns) (key_of columns names)
+numbers-within columns [] some = tt
+numbers-within columns (name ∷ names) some =
+    (number-within columns name some, numbers-within columns names some)
 
 -- a granularity after settings
 granularity-in : (settings : List TableWord) (before : ℕ) → AllByRecursion IsSetting settings
@@ -187,8 +187,8 @@ table_of-fits name columns key settings whole =
     let rows = granularity-in settings 8192 whole.2 (omega arith, omega arith) in
     record {
       keyed =
-          rw (length-map key (λ n. unwrap_or (column_place (columns_of columns) n) 0)) whole.1;
-      within = places-within (columns_of columns) key columns_some;
+          rw (length-map key (λ n. unwrap_or (column_number (columns_of columns) n) 0)) whole.1;
+      within = numbers-within (columns_of columns) key columns_some;
       some_rows = rows.0;
       few_rows = rows.1;
     }

@@ -2,10 +2,10 @@
 use Rattle.std.specs.Prelude.{◌≡◌, ℕ, ◌<◌, ◌≤◌, List, [], ◌∷◌, length, map, take, Option, Some, None}
 use Rattle.std.specs.Prelude.{slice_get, Contains}
 use Rattle.pj_value.specs.declared.value.Value.{Value}
-use Rattle.pj_parse.specs.declared.types.Statement.{Statement}
-use Rattle.pj_parse.specs.declared.types.Statement.TheVariants as statements
-use Rattle.pj_parse.specs.declared.types.TreeColumn.{TreeColumn}
-use Rattle.pj_parse.specs.declared.types.TreeSelect.{TreeSelect}
+use Rattle.pj_grammar.specs.declared.types.Statement.{Statement}
+use Rattle.pj_grammar.specs.declared.types.Statement.TheVariants as statements
+use Rattle.pj_grammar.specs.declared.types.TreeColumn.{TreeColumn}
+use Rattle.pj_grammar.specs.declared.types.TreeSelect.{TreeSelect}
 use Rattle.pj_expr.specs.declared.query.Query.{Query}
 use Rattle.pj_expr.specs.declared.table.Table.{Table}
 use Rattle.pj_expr.specs.Tables.{names, kinds_of}
@@ -38,8 +38,8 @@ IsUnknown tables name = Contains (names tables) name → ⊥
 
 -- the table of this number is the first of this name
 abbrev pub IsTableAt : List Table → Name → ℕ → Table → Type 0
-IsTableAt tables name place table =
-    (slice_get tables place ≡ Some table) × (table.name ≡ name) × IsUnknown (take place tables) name
+IsTableAt tables name number table =
+    (slice_get tables number ≡ Some table) × (table.name ≡ name) × IsUnknown (take number tables) name
 
 -- ---- CREATE
 
@@ -129,7 +129,7 @@ asked_of table causes = map (λ cause. cause table) causes
 -- the cause, asked of the table of this name
 abbrev pub At : List Table → Name → (Table → Cause) → Cause
 At tables name cause refusal =
-    (place : ℕ) × (table : Table) × IsTableAt tables name place table × cause table refusal
+    (number : ℕ) × (table : Table) × IsTableAt tables name number table × cause table refusal
 
 -- the table of this name must be there, and then these causes are asked of it
 abbrev pub causes_at : List Table → Name → List (Table → Cause) → List Cause
@@ -149,8 +149,8 @@ abbrev pub causes : List Table → Statement → List Cause
 causes tables statement = (NotBuilt when (IsBuilt statement → ⊥)) ∷ form_causes tables statement
 
 -- the statement, of a built form, is refused so for these tables
-abbrev pub IsRefusedBy : List Table → Statement → Refusal → Type 0
-IsRefusedBy tables statement refusal = First (form_causes tables statement) refusal
+abbrev pub IsFormRefusal : List Table → Statement → Refusal → Type 0
+IsFormRefusal tables statement refusal = First (form_causes tables statement) refusal
 
 -- the statement is refused so for these tables
 abbrev pub IsRefusal : List Table → Statement → Refusal → Type 0
@@ -163,15 +163,15 @@ abbrev pub IsBound : List Table → Statement → Bound → Type 0
 IsBound tables (statements.Create name columns projections key settings) bound =
     CanBeCreated tables name columns key × (bound ≡ bounds.Create (table_of name columns key settings))
 IsBound tables (statements.Insert name columns rows) bound =
-    (place : ℕ) × (table : Table) × IsTableAt tables name place table
+    (number : ℕ) × (table : Table) × IsTableAt tables name number table
     × AreColumns table columns × FillColumns table.columns columns rows
-    × (bound ≡ bounds.Insert place (record {
+    × (bound ≡ bounds.Insert number (record {
       kinds = kinds_of table;
       rows = filled_rows table.columns columns rows;
     }))
 IsBound tables (statements.Select select) bound =
-    (place : ℕ) × (table : Table) × IsTableAt tables select.table place table
-    × ((query : Query) × Asks table select query × (bound ≡ bounds.Select place query))
+    (number : ℕ) × (table : Table) × IsTableAt tables select.table number table
+    × ((query : Query) × Asks table select query × (bound ≡ bounds.Select number query))
 IsBound tables (statements.Explain select) bound = ⊥
 IsBound tables (statements.Delete name filter sets) bound = ⊥
 IsBound tables (statements.Alter name action sets) bound = ⊥

@@ -2,11 +2,11 @@
 use Rattle.std.specs.Prelude.{◌≡◌, []}
 use Rattle.std.specs.List.{AllByRecursion}
 use Rattle.pj_value.specs.declared.value.AggKind.TheVariants as aggregates
-use Rattle.pj_parse.specs.declared.types.TreeItem.{TreeItem}
-use Rattle.pj_parse.specs.declared.types.TreeItem.TheVariants as tree_items
-use Rattle.pj_parse.specs.declared.types.TreeSelect.{TreeSelect}
-use Rattle.pj_parse.specs.declared.types.Statement.{Statement}
-use Rattle.pj_parse.specs.declared.types.Statement.TheVariants as statements
+use Rattle.pj_grammar.specs.declared.types.TreeItem.{TreeItem}
+use Rattle.pj_grammar.specs.declared.types.TreeItem.TheVariants as tree_items
+use Rattle.pj_grammar.specs.declared.types.TreeSelect.{TreeSelect}
+use Rattle.pj_grammar.specs.declared.types.Statement.{Statement}
+use Rattle.pj_grammar.specs.declared.types.Statement.TheVariants as statements
 use Rattle.pj_bind.specs.Queries.{listed}
 
 -- an item whose call, if it is one, is a count

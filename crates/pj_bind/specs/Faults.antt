@@ -1,26 +1,26 @@
--- Why a statement doesn't bind, and the place of a table.
+-- Why a statement doesn't bind, and the number of a table.
 use Rattle.std.specs.Prelude.{ℕ, List}
-use Rattle.pj_parse.specs.declared.types.Statement.{Statement}
+use Rattle.pj_grammar.specs.declared.types.Statement.{Statement}
 use Rattle.pj_expr.specs.declared.table.Table.{Table}
 use Rattle.pj_bind.specs.declared.binding.BindFault.{BindFault}
 use Rattle.pj_bind.specs.declared.binding.BindFault.TheVariants as faults
 use Rattle.pj_bind.specs.declared.types.Refusal.{Refusal}
 use Rattle.pj_bind.specs.Names.{Name}
-use Rattle.pj_bind.specs.Binding.{IsRefusedBy, IsRefusal, IsTableAt}
+use Rattle.pj_bind.specs.Binding.{IsFormRefusal, IsRefusal, IsTableAt}
 
--- the fault is a refusal of this kind, or there was no memory
+-- the fault is a refusal of this kind, or out of memory
 abbrev pub IsFault : (Refusal → Type 0) → BindFault → Type 0
 IsFault refuses (faults.Refused refusal) = refuses refusal
 IsFault refuses faults.NoMemory = Unit {0}
 
--- the statement is refused so, or there was no memory
+-- the statement is refused so, or out of memory
 abbrev pub IsBindFault : List Table → Statement → BindFault → Type 0
 IsBindFault tables statement fault = IsFault (IsRefusal tables statement) fault
 
--- the statement, of a built form, is refused so, or there was no memory
+-- the statement, of a built form, is refused so, or out of memory
 abbrev pub IsBuiltFault : List Table → Statement → BindFault → Type 0
-IsBuiltFault tables statement fault = IsFault (IsRefusedBy tables statement) fault
+IsBuiltFault tables statement fault = IsFault (IsFormRefusal tables statement) fault
 
 -- the first table of the name has this number
 abbrev pub IsAt : List Table → Name → ℕ → Type 0
-IsAt tables name place = (table : Table) × IsTableAt tables name place table
+IsAt tables name number = (table : Table) × IsTableAt tables name number table

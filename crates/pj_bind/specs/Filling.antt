@@ -19,7 +19,7 @@ abbrev pub listed_names : Option (List Name) → List Name
 listed_names None = []
 listed_names (Some names) = names
 
--- the literal at a place of a row, and 0 or the empty text where a column is left out
+-- the literal at an index of a row, and 0 or the empty text where a column is left out
 abbrev pub literal_or_default : Kind → List Value → Option ℕ → Value
 literal_or_default kind row None = default kind
 literal_or_default kind row (Some at) = value_in row at

@@ -1,10 +1,10 @@
 -- Laws over the definitions of this crate, each shown by a function of its own (src/laws.rt).
 use Rattle.std.specs.Prelude.{◌≡◌, ◌⊎◌, ℕ, List, Some, slice_get}
-use Rattle.pj_parse.specs.declared.types.Statement.{Statement}
-use Rattle.pj_parse.specs.declared.types.Statement.TheVariants as statements
-use Rattle.pj_parse.specs.declared.types.TreeSelect.{TreeSelect}
-use Rattle.pj_parse.specs.Lexemes.{Lexeme}
-use Rattle.pj_parse.specs.GrammarStatements.{Line}
+use Rattle.pj_grammar.specs.declared.types.Statement.{Statement}
+use Rattle.pj_grammar.specs.declared.types.Statement.TheVariants as statements
+use Rattle.pj_grammar.specs.declared.types.TreeSelect.{TreeSelect}
+use Rattle.pj_grammar.specs.Lexemes.{Lexeme}
+use Rattle.pj_grammar.specs.grammar.Statements.{IsStatement}
 use Rattle.pj_expr.specs.declared.query.Query.{Query}
 use Rattle.pj_expr.specs.declared.table.Table.{Table}
 use Rattle.pj_expr.specs.Tables.{kinds_of, TableFits}
@@ -24,8 +24,8 @@ HasUniqueNames tables =
 -- where no two tables have one name, each is the first of its name
 abbrev pub EachIsFirst : Type 0
 EachIsFirst =
-    (tables : List Table) (place : ℕ) (table : Table) → HasUniqueNames tables
-    → slice_get tables place ≡ Some table → IsTableAt tables table.name place table
+    (tables : List Table) (number : ℕ) (table : Table) → HasUniqueNames tables
+    → slice_get tables number ≡ Some table → IsTableAt tables table.name number table
 
 -- a statement is refused in one way at most
 abbrev pub OneRefusal : Type 0
@@ -54,18 +54,18 @@ BoundOrRefused =
 
 -- the query fits the table of this name that has this number
 abbrev pub FitsTableAt : List Table → List ℕ → ℕ → Query → Type 0
-FitsTableAt tables name place query =
-    (table : Table) × IsTableAt tables name place table × FitsQuery (kinds_of table) query
+FitsTableAt tables name number query =
+    (table : Table) × IsTableAt tables name number table × FitsQuery (kinds_of table) query
 
 -- the query that a SELECT binds to fits its table
 abbrev pub BoundQueriesFit : Type 0
 BoundQueriesFit =
-    (tables : List Table) (select : TreeSelect) (place : ℕ) (query : Query)
-    → IsBound tables (statements.Select select) (bounds.Select place query)
-    → FitsTableAt tables select.table place query
+    (tables : List Table) (select : TreeSelect) (number : ℕ) (query : Query)
+    → IsBound tables (statements.Select select) (bounds.Select number query)
+    → FitsTableAt tables select.table number query
 
--- the table of a CREATE that is a line of the grammar and binds may be made
+-- the table of a CREATE that is a statement of the grammar and binds may be made
 abbrev pub BoundTablesFit : Type 0
 BoundTablesFit =
-    (ts : List Lexeme) (statement : Statement) (tables : List Table) (table : Table) → Line ts statement
+    (ts : List Lexeme) (statement : Statement) (tables : List Table) (table : Table) → IsStatement ts statement
     → IsBound tables statement (bounds.Create table) → TableFits table

@@ -3,11 +3,11 @@ use Rattle.std.specs.Prelude.{ℕ, List, Option, Some, None}
 use Rattle.std.specs.Option.{option_map, option_and_then}
 use Rattle.std.specs.List.{position}
 use Rattle.std.specs.Str.{bytes_eq}
-use Rattle.pj_parse.specs.declared.types.TreeOp.{TreeOp}
-use Rattle.pj_parse.specs.declared.types.TreeOp.TheVariants as tree_ops
-use Rattle.pj_parse.specs.declared.types.Tree.{Tree}
-use Rattle.pj_parse.specs.declared.types.Tree.TheOpen.{Tree-F}
-use Rattle.pj_parse.specs.declared.types.Tree.TheFolds.{fold-Tree}
+use Rattle.pj_grammar.specs.declared.types.TreeOp.{TreeOp}
+use Rattle.pj_grammar.specs.declared.types.TreeOp.TheVariants as tree_ops
+use Rattle.pj_grammar.specs.declared.types.Tree.{Tree}
+use Rattle.pj_grammar.specs.declared.types.Tree.TheOpen.{Tree-F}
+use Rattle.pj_grammar.specs.declared.types.Tree.TheFolds.{fold-Tree}
 use Rattle.pj_expr.specs.declared.expr.Expr.{Expr}
 use Rattle.pj_expr.specs.declared.expr.Expr.TheVariants as exprs
 use Rattle.pj_expr.specs.declared.cond.Op.{Op}
@@ -19,13 +19,13 @@ use Rattle.pj_bind.specs.declared.meaning.Meaning.{Meaning}
 use Rattle.pj_bind.specs.declared.meaning.Meaning.TheVariants.{Value, Condition}
 use Rattle.pj_bind.specs.Names.{Name}
 
--- the place of the first column of this name
-abbrev pub column_place : List ColumnDef → Name → Option ℕ
-column_place columns name = position (λ column. bytes_eq column.name name) columns
+-- the number of the first column of this name
+abbrev pub column_number : List ColumnDef → Name → Option ℕ
+column_number columns name = position (λ column. bytes_eq column.name name) columns
 
 -- the column of this name
 abbrev pub column_named : List ColumnDef → Name → Option Meaning
-column_named columns name = option_map (λ at. Value (exprs.Column at)) (column_place columns name)
+column_named columns name = option_map (λ at. Value (exprs.Column at)) (column_number columns name)
 
 -- the value, where it is one
 abbrev pub value_in : Option Meaning → Option Expr

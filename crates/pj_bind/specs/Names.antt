@@ -3,9 +3,9 @@ use Rattle.std.specs.Prelude.{◌≡◌, ℕ, List, [], ◌∷◌, ◌++◌, Boo
 use Rattle.std.specs.Prelude.{Contains}
 use Rattle.std.specs.List.{find, list_any}
 use Rattle.std.specs.Str.{bytes_eq}
-use Rattle.pj_parse.specs.declared.types.Tree.{Tree}
-use Rattle.pj_parse.specs.declared.types.Tree.TheOpen.{Tree-F}
-use Rattle.pj_parse.specs.declared.types.Tree.TheFolds.{fold-Tree}
+use Rattle.pj_grammar.specs.declared.types.Tree.{Tree}
+use Rattle.pj_grammar.specs.declared.types.Tree.TheOpen.{Tree-F}
+use Rattle.pj_grammar.specs.declared.types.Tree.TheFolds.{fold-Tree}
 
 -- a name
 abbrev pub Name : Type 0

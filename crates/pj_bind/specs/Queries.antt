@@ -5,14 +5,14 @@ use Rattle.std.specs.Option.{option_map, option_and_then, is_some}
 use Rattle.std.specs.List.{find, flat_map, range_with_len}
 use Rattle.std.specs.Str.{bytes_eq}
 use Rattle.pj_value.specs.declared.value.AggKind.{AggKind}
-use Rattle.pj_parse.specs.declared.types.Tree.{Tree}
-use Rattle.pj_parse.specs.declared.types.Tree.TheOpen.{Tree-F}
-use Rattle.pj_parse.specs.declared.types.Tree.TheFolds.{fold-Tree}
-use Rattle.pj_parse.specs.declared.types.TreeItem.{TreeItem}
-use Rattle.pj_parse.specs.declared.types.TreeItem.TheVariants as tree_items
-use Rattle.pj_parse.specs.declared.types.Listed.{Listed}
-use Rattle.pj_parse.specs.declared.types.TreeOrder.{TreeOrder}
-use Rattle.pj_parse.specs.declared.types.TreeSelect.{TreeSelect}
+use Rattle.pj_grammar.specs.declared.types.Tree.{Tree}
+use Rattle.pj_grammar.specs.declared.types.Tree.TheOpen.{Tree-F}
+use Rattle.pj_grammar.specs.declared.types.Tree.TheFolds.{fold-Tree}
+use Rattle.pj_grammar.specs.declared.types.TreeItem.{TreeItem}
+use Rattle.pj_grammar.specs.declared.types.TreeItem.TheVariants as tree_items
+use Rattle.pj_grammar.specs.declared.types.Listed.{Listed}
+use Rattle.pj_grammar.specs.declared.types.TreeOrder.{TreeOrder}
+use Rattle.pj_grammar.specs.declared.types.TreeSelect.{TreeSelect}
 use Rattle.pj_expr.specs.declared.expr.Expr.{Expr}
 use Rattle.pj_expr.specs.declared.expr.Expr.TheVariants as exprs
 use Rattle.pj_expr.specs.declared.cond.Cond.{Cond}

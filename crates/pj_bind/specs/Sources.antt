@@ -10,11 +10,11 @@ use Rattle.pj_bind.specs.declared.filling.Source.{Source}
 use Rattle.pj_bind.specs.Names.{Name}
 use Rattle.pj_bind.specs.Filling.{literal_or_default}
 
--- what fills a column: the literal at the place of its name in the list
+-- what fills a column: the literal at the index of its name in the list
 abbrev pub source_of : List Name → ColumnDef → Source
 source_of names column = record {
   kind = column.kind;
-  place = position (λ name. bytes_eq name column.name) names;
+  index = position (λ name. bytes_eq name column.name) names;
 }
 
 -- the kinds of columns
@@ -23,7 +23,7 @@ source_kinds sources = map (λ source. source.kind) sources
 
 -- what sources give of a row of literals
 abbrev pub filled_from : List Source → List Value → List Value
-filled_from sources row = map (λ source. literal_or_default source.kind row source.place) sources
+filled_from sources row = map (λ source. literal_or_default source.kind row source.index) sources
 
 -- a row has so many literals, and they are of the columns' kinds
 pub record FillsFrom (sources : List Source) (width : ℕ) (row : List Value) : Type 0 where

@@ -1,17 +1,17 @@
 -- The table of a CREATE (docs/GRAMMAR.md, "Binding").
 use Rattle.std.specs.Prelude.{ℕ, List, map, fold}
 use Rattle.std.specs.Option.{unwrap_or}
-use Rattle.pj_parse.specs.declared.types.ModeWord.{ModeWord}
-use Rattle.pj_parse.specs.declared.types.ModeWord.TheVariants as mode_words
-use Rattle.pj_parse.specs.declared.types.TableWord.{TableWord}
-use Rattle.pj_parse.specs.declared.types.TableWord.TheVariants as table_words
-use Rattle.pj_parse.specs.declared.types.TreeColumn.{TreeColumn}
+use Rattle.pj_grammar.specs.declared.types.ModeWord.{ModeWord}
+use Rattle.pj_grammar.specs.declared.types.ModeWord.TheVariants as mode_words
+use Rattle.pj_grammar.specs.declared.types.TableWord.{TableWord}
+use Rattle.pj_grammar.specs.declared.types.TableWord.TheVariants as table_words
+use Rattle.pj_grammar.specs.declared.types.TreeColumn.{TreeColumn}
 use Rattle.pj_expr.specs.declared.table.ColumnDef.{ColumnDef}
 use Rattle.pj_expr.specs.declared.table.LightMode.{LightMode}
 use Rattle.pj_expr.specs.declared.table.LightMode.TheVariants as modes
 use Rattle.pj_expr.specs.declared.table.Table.{Table}
 use Rattle.pj_bind.specs.Names.{Name}
-use Rattle.pj_bind.specs.Meanings.{column_place}
+use Rattle.pj_bind.specs.Meanings.{column_number}
 
 -- the column that a column of CREATE makes
 abbrev pub column_of : TreeColumn → ColumnDef
@@ -21,9 +21,9 @@ column_of column = record { name = column.name; kind = column.kind }
 abbrev pub columns_of : List TreeColumn → List ColumnDef
 columns_of columns = map column_of columns
 
--- the places of the key's columns
+-- the numbers of the key's columns
 abbrev pub key_of : List ColumnDef → List Name → List ℕ
-key_of columns key = map (λ name. unwrap_or (column_place columns name) 0) key
+key_of columns key = map (λ name. unwrap_or (column_number columns name) 0) key
 
 -- the granularity after a setting
 abbrev pub granularity_on : ℕ → TableWord → ℕ

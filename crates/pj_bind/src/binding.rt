@@ -18,9 +18,9 @@ use crate::queries::{query_of, unknown_in_select};
 use crate::tables::{columns_of, table_of};
 use crate::types::{Bound, LimitName, Refusal};
 use pj_expr::{Query, Table, keeps_groups, keeps_kinds};
+use pj_grammar::types::{Statement, TreeColumn, TreeSelect, ValueRows};
 use pj_journal::TABLES;
 use pj_journal::types::Catalog;
-use pj_parse::types::{Statement, TreeColumn, TreeSelect, ValueRows};
 use pj_value::{List, NoMemory, PushFault, Rows, Text};
 use std::alloc::{AllocError, AllocFailed, Global};
 use thiserror::Error;
@@ -34,8 +34,8 @@ pub enum BindFault {
     /// It is refused so, and stays refused for these tables.
     #[error("refused")]
     Refused(Refusal),
-    /// There was no memory for the call.
-    #[error("no memory")]
+    /// Out of memory.
+    #[error("out of memory")]
     NoMemory,
 }
 
@@ -119,7 +119,7 @@ fn check_create(
     ensures refused { IfErr result
         (IsFault (First (create_causes tables.now name.now columns.now key.now))) }
 {
-    if place_of(tables, name).is_some() {
+    if number_of(tables, name).is_some() {
         let name = name.duplicate(alloc)?;
         return Err(BindFault::Refused(Refusal::TableExists(name)));
     }
@@ -185,12 +185,12 @@ fn insert(
     ensures refused { IfErr result
         (IsBuiltFault tables.now (Statement.Insert name.now listed.now rows.now)) }
 {
-    let Some(place) = place_of(tables, name) else {
+    let Some(number) = number_of(tables, name) else {
         return Err(unknown_table(alloc, name));
     };
-    let rows = insert_into(alloc, &tables[place], listed, rows)?;
+    let rows = insert_into(alloc, &tables[number], listed, rows)?;
     Ok(Bound::Insert {
-        table: place as u32,
+        table: number as u32,
         rows,
     })
 }
@@ -239,12 +239,12 @@ fn select_from(alloc: Global, tables: &[Table], select: &TreeSelect) -> Result<B
     ensures bound { IfOk result (IsBound tables.now (Statement.Select select.now)) }
     ensures refused { IfErr result (IsBuiltFault tables.now (Statement.Select select.now)) }
 {
-    let Some(place) = place_of(tables, &select.table) else {
+    let Some(number) = number_of(tables, &select.table) else {
         return Err(unknown_table(alloc, &select.table));
     };
-    let query = query_over(alloc, &tables[place], select)?;
+    let query = query_over(alloc, &tables[number], select)?;
     Ok(Bound::Select {
-        table: place as u32,
+        table: number as u32,
         query,
     })
 }
@@ -295,12 +295,12 @@ fn grouped(query: Query) -> Result<Query, BindFault>
 }
 
 /// The number of the table of this name.
-fn place_of(tables: &[Table], name: &Text) -> Option<usize>
+fn number_of(tables: &[Table], name: &Text) -> Option<usize>
     ensures { MatchOption result (IsUnknown tables.now name.now) (IsAt tables.now name.now) }
 {
-    'tables: for (place, table) in tables.iter().enumerate() {
+    'tables: for (number, table) in tables.iter().enumerate() {
         if table.name.as_slice() == name.as_slice() {
-            return Some(place);
+            return Some(number);
         }
     }
     None

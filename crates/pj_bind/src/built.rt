@@ -4,7 +4,7 @@ ghost use Rattle.std.specs.List.{AllByRecursion};
 ghost use Rattle.pj_bind.specs.Built.{IsBuilt, IsBuiltItem, IsBuiltSelect};
 
 use crate::queries::listed;
-use pj_parse::types::{Listed, Statement, TreeItem, TreeOrder, TreeSelect};
+use pj_grammar::types::{Listed, Statement, TreeItem, TreeOrder, TreeSelect};
 use pj_value::AggKind;
 
 /// Whether the statement has a form that is built.

@@ -9,7 +9,7 @@ ghost use Rattle.pj_bind.specs.Filling.{FillsRow, FillColumns, filled_rows};
 ghost use Rattle.pj_bind.specs.Sources.{source_of, source_kinds, filled_from, FillsFrom};
 
 use pj_expr::{ColumnDef, Table};
-use pj_parse::types::ValueRows;
+use pj_grammar::types::ValueRows;
 use pj_value::{Kind, List, NoMemory, PushFault, Rows, Text, Value};
 use std::alloc::Global;
 
@@ -55,11 +55,11 @@ fn rows_as_they_are(alloc: Global, kinds: &[Kind], rows: &ValueRows) -> Result<R
     Ok(made)
 }
 
-/// What fills a column: its kind, and the place of its literal in each row, none where it is left out.
+/// What fills a column: its kind, and the index of its literal in each row, none where it is left out.
 #[derive(Clone, Copy)]
 struct Source {
     kind: Kind,
-    place: Option<usize>,
+    index: Option<usize>,
 }
 
 /// The rows of literals for these names.
@@ -98,7 +98,7 @@ fn source_of(names: &[Text], column: &ColumnDef) -> Source
 {
     Source {
         kind: column.kind,
-        place: place_of(names, &column.name),
+        index: index_of(names, &column.name),
     }
 }
 
@@ -158,17 +158,17 @@ fn row_from(alloc: Global, sources: &[Source], row: &[Value]) -> Result<Vec<Valu
 
 /// What a source gives of a row of literals.
 fn value_from(alloc: Global, row: &[Value], source: Source) -> Result<Value, NoMemory>
-    ensures { IfOk result (λ value. value ≡ literal_or_default source.kind row.now source.place) }
+    ensures { IfOk result (λ value. value ≡ literal_or_default source.kind row.now source.index) }
 {
-    match source.place {
+    match source.index {
         Some(at) if at < row.len() => row[at].duplicate(alloc),
         Some(_) => Ok(Value::Num(0)),
         None => Ok(default_of(alloc, source.kind)),
     }
 }
 
-/// The place of a name among these.
-fn place_of(names: &[Text], name: &Text) -> Option<usize>
+/// The index of a name among these.
+fn index_of(names: &[Text], name: &Text) -> Option<usize>
     ensures { result ≡ position (λ other. bytes_eq other name.now) names.now }
 {
     names

@@ -16,6 +16,3 @@ pub use laws::{
     bound_or_refused, bound_queries_fit, bound_tables_fit, each_is_first, no_bound_is_refused,
     one_bound, one_refusal,
 };
-
-#[cfg(test)]
-mod tests;

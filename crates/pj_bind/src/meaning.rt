@@ -2,17 +2,17 @@
 ghost use Rattle.std.specs.Prelude.{◌≡◌, IfOk};
 ghost use Rattle.pj_expr.specs.declared.expr.Expr.TheVariants as exprs;
 ghost use Rattle.pj_expr.specs.declared.cond.Cond.TheVariants as conds;
-ghost use Rattle.pj_bind.specs.Meanings.{column_place, column_named, of_value, of_values, of_conditions};
+ghost use Rattle.pj_bind.specs.Meanings.{column_number, column_named, of_value, of_values, of_conditions};
 ghost use Rattle.pj_bind.specs.Meanings.{negated, compared, pair_meaning, meaning, value_in, condition_in};
 
 use pj_expr::{ColumnDef, Cond, Expr, Op};
-use pj_parse::types::{Tree, TreeOp};
+use pj_grammar::types::{Tree, TreeOp};
 use pj_value::{NoMemory, Text};
 use sqlite_items::Boxed;
 use std::alloc::Global;
 
 /// A tree whose names are columns.
-#[derive(Debug, Drop)]
+#[derive(Drop)]
 pub(crate) enum Meaning {
     Value(Expr),
     Condition(Cond),
@@ -64,9 +64,9 @@ pub(crate) fn condition_in(meaning: Option<Meaning>) -> Option<Cond>
     }
 }
 
-/// The place of the first column of this name.
-pub(crate) fn column_place(columns: &[ColumnDef], name: &Text) -> Option<usize>
-    ensures { result ≡ column_place columns.now name.now }
+/// The number of the first column of this name.
+pub(crate) fn column_number(columns: &[ColumnDef], name: &Text) -> Option<usize>
+    ensures { result ≡ column_number columns.now name.now }
 {
     columns
         .iter()
@@ -77,7 +77,7 @@ pub(crate) fn column_place(columns: &[ColumnDef], name: &Text) -> Option<usize>
 fn named(columns: &[ColumnDef], name: &Text) -> Option<Meaning>
     ensures { result ≡ column_named columns.now name.now }
 {
-    match column_place(columns, name) {
+    match column_number(columns, name) {
         Some(at) => Some(Meaning::Value(Expr::Column(at))),
         None => None,
     }
@@ -197,7 +197,7 @@ fn both(alloc: Global, a: Option<Meaning>, b: Option<Meaning>) -> Result<Option<
     Ok(Some(Meaning::Condition(Cond::And(a, b))))
 }
 
-/// The condition that one of them holds.
+/// The condition that a row satisfies where it satisfies one of them.
 fn either(
     alloc: Global,
     a: Option<Meaning>,

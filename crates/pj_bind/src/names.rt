@@ -5,7 +5,7 @@ ghost use Rattle.pj_bind.specs.Names.{names_in, is_among, first_unknown, NoneRep
 ghost use Rattle.pj_bind.specs.Filling.{column_names};
 
 use pj_expr::ColumnDef;
-use pj_parse::types::Tree;
+use pj_grammar::types::Tree;
 use pj_value::{NoMemory, Text};
 use std::alloc::Global;
 use std::collections::BTreeSet;

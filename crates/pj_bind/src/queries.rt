@@ -13,7 +13,7 @@ ghost use Rattle.pj_bind.specs.Queries.{filter_of, value_of_item, group_of, key_
 use crate::meaning::{condition_in, meaning_of, value_in};
 use crate::names::unknown_in_tree;
 use pj_expr::{AggCall, ColumnDef, Cond, Expr, Item, OrderKey, Query};
-use pj_parse::types::{Listed, Tree, TreeItem, TreeOrder, TreeSelect};
+use pj_grammar::types::{Listed, Tree, TreeItem, TreeOrder, TreeSelect};
 use pj_value::{List, NoMemory, Text};
 use std::alloc::Global;
 

@@ -3,9 +3,9 @@ ghost use Rattle.std.specs.Prelude.{◌≡◌, IfOk};
 ghost use Rattle.pj_bind.specs.Tables.{column_of, columns_of, key_of, granularity_of, mode_of, mode_named};
 ghost use Rattle.pj_bind.specs.Tables.{table_of as table_made};
 
-use crate::meaning::column_place;
+use crate::meaning::column_number;
 use pj_expr::{ColumnDef, LightMode, Table};
-use pj_parse::types::{ModeWord, TableWord, TreeColumn};
+use pj_grammar::types::{ModeWord, TableWord, TreeColumn};
 use pj_value::{List, NoMemory, Text};
 use std::alloc::Global;
 
@@ -54,15 +54,15 @@ fn column_of(alloc: Global, column: &TreeColumn) -> Result<ColumnDef, NoMemory>
     })
 }
 
-/// The places of the key's columns, and 0 for a name that is none.
+/// The numbers of the key's columns, and 0 for a name that is none.
 fn key_of(alloc: Global, columns: &[ColumnDef], key: &[Text]) -> Result<Vec<usize>, NoMemory>
-    ensures { IfOk result (λ places. places.items ≡ key_of columns.now key.now) }
+    ensures { IfOk result (λ numbers. numbers.items ≡ key_of columns.now key.now) }
 {
-    let mut places = Vec::with_capacity(alloc, key.len())?;
+    let mut numbers = Vec::with_capacity(alloc, key.len())?;
     'names: for name in key {
-        places.push(column_place(columns, name).unwrap_or(0))?;
+        numbers.push(column_number(columns, name).unwrap_or(0))?;
     }
-    Ok(places)
+    Ok(numbers)
 }
 
 /// The last granularity that is set, 8,192 rows by default.

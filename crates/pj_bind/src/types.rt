@@ -2,7 +2,7 @@
 use pj_expr::{Query, Table};
 use pj_value::{Rows, Text};
 
-/// A statement, with numbers in the place of names.
+/// A statement, with numbers for names.
 #[derive(Debug, Drop)]
 pub enum Bound {
     /// CREATE TABLE, with the table that it makes.
@@ -31,7 +31,7 @@ pub enum LimitName {
 /// Why a statement has no other reply.
 #[derive(Debug, Drop)]
 pub enum Refusal {
-    /// No token stands at this place of the body, or no line of the grammar goes on there.
+    /// At this offset of the body no token stands, or no statement goes on.
     Syntax(usize),
     /// The limit is reached.
     Limit(LimitName),
@@ -43,7 +43,7 @@ pub enum Refusal {
     DuplicateColumn(Text),
     /// The name is no column, and no alias where aliases count.
     UnknownIdentifier(Text),
-    /// A value has another kind than its place wants, or is a condition, or the other way round; or a row has
+    /// A value has another kind than is wanted there, or is a condition, or the other way round; or a row has
     /// more or fewer literals than it fills columns.
     TypeMismatch,
     /// An item or a key of ORDER BY of a query that aggregates is no call, and isn't built of GROUP BY values
@@ -51,6 +51,6 @@ pub enum Refusal {
     NotAnAggregate,
     /// This form of statement isn't built yet.
     NotBuilt,
-    /// There was no memory for the statement.
+    /// Out of memory.
     NoMemory,
 }

@@ -1,4 +1,4 @@
--- The values of expressions, and whether conditions hold: one equation for each variant.
+-- The values of expressions, and whether rows satisfy conditions: one equation for each variant.
 use Rattle.std.proofs.Common.{◌≡◌, ℕ, ◌+◌, ◌*◌, ◌/◌, ◌%◌, ◌^◌, Bool, true, not, ◌&&◌, ◌||◌, List, get_or}
 use Rattle.std.proofs.Common.{sym, ap, ◌∙◌}
 use Rattle.pj_value.specs.declared.value.Value.{Value}
@@ -52,7 +52,7 @@ module _ (row : List Value) where
   eval-Mod a d =
       ap (λ e. eval e row) (sym (exprs.rolls-Mod a d)) ∙ fold-roll-Expr Value (eval_step row) (Expr-F.Mod a d)
 
-  -- each row holds it
+  -- each row satisfies it
   pub holds-All : holds conds.All row ≡ true
   holds-All = ap (λ c. holds c row) (sym conds.rolls-All) ∙ fold-roll-Cond Bool (holds_step row) Cond-F.All
 

@@ -1,6 +1,6 @@
 -- The value of an expression is of the expression's kind.
 use Rattle.std.proofs.Common.{arith, ◌≡◌, ℕ, zero, suc, Bool, true, false, List, [], ◌∷◌, map, get_or}
-use Rattle.std.proofs.Common.{Option, Some, None, refl, sym, ◌∙◌}
+use Rattle.std.proofs.Common.{Option, Some, None, sym, ◌∙◌}
 use Rattle.std.specs.Prelude.{slice_get, if◌then◌else◌}
 use Rattle.std.proofs.Math.Dec.{leb}
 use Rattle.pj_value.specs.declared.value.Kind.{Kind}
@@ -8,12 +8,10 @@ use Rattle.pj_value.specs.declared.value.Kind.TheVariants as kinds
 use Rattle.pj_value.specs.declared.value.Value.{Value}
 use Rattle.pj_value.specs.declared.value.Value.TheVariants as values
 use Rattle.pj_value.specs.Values.{kind_of}
-use Rattle.pj_value.specs.Aggregates.{number_in}
 use Rattle.pj_expr.specs.declared.expr.Expr.{Expr, Expr-F, out-Expr, roll-Expr, roll-out-Expr}
 use Rattle.pj_expr.specs.declared.expr.Expr.TheVariants as exprs
 use Rattle.pj_expr.specs.Eval.{eval}
 use Rattle.pj_expr.specs.Fits.{of_numbers, of_division, expr_kind, IsBuiltOf}
-use Rattle.pj_expr.specs.Blocks.{text_in}
 use Rattle.pj_expr.proofs.EvalLemmas.{eval-Column, eval-Num, eval-Text, eval-Add, eval-Mul, eval-IntDiv}
 use Rattle.pj_expr.proofs.EvalLemmas.{eval-Mod}
 use Rattle.pj_expr.proofs.FitsLemmas.{expr_kind-Column, expr_kind-Num, expr_kind-Text}
@@ -93,13 +91,3 @@ kind_of-built columns row _ k (IsBuiltOf.quotient {a} {d} x) h =
     rw (eval-IntDiv row a d) (sym (of_division-Num _ d k (sym (expr_kind-IntDiv columns a d) ∙ h)))
 kind_of-built columns row _ k (IsBuiltOf.remainder {a} {d} x) h =
     rw (eval-Mod row a d) (sym (of_division-Num _ d k (sym (expr_kind-Mod columns a d) ∙ h)))
-
--- a value of the kind of numbers is a number
-pub is_number : (v : Value) → kind_of v ≡ kinds.Num → v ≡ values.Num (number_in v)
-is_number (values.Num n) e = refl
-is_number (values.Text t) e = (cc)
-
--- a value of the kind of texts is a text
-pub is_text : (v : Value) → kind_of v ≡ kinds.Text → v ≡ values.Text (text_in v)
-is_text (values.Num n) e = (cc)
-is_text (values.Text t) e = refl

@@ -46,6 +46,6 @@ holds_step row (Cond-F.And a b) = a && b
 holds_step row (Cond-F.Or a b) = a || b
 holds_step row (Cond-F.Not a) = not a
 
--- whether a row holds a condition
+-- whether a row satisfies a condition
 abbrev pub holds : Cond → List Value → Bool
 holds c row = fold-Cond Bool (holds_step row) c

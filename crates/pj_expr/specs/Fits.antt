@@ -115,15 +115,6 @@ abbrev pub IsOfGroup : List Expr → Item → Type 0
 IsOfGroup keys (Plain e) = IsBuiltOf keys e
 IsOfGroup keys (Agg call) = Unit {0}
 
--- a query fits rows of these kinds
-pub record FitsQuery (columns : List Kind) (q : Query) : Type 0 where
-  pub filter : FitsCond columns q.filter
-  pub items : AllByRecursion (FitsItem columns) q.items
-  pub groups : AllByRecursion (FitsExpr columns) q.groups
-  pub order : AllByRecursion (λ key. FitsItem columns key.item) q.order
-  pub items_of_group : aggregates_rows q ≡ true → AllByRecursion (IsOfGroup q.groups) q.items
-  pub order_of_group : aggregates_rows q ≡ true → AllByRecursion (λ key. IsOfGroup q.groups key.item) q.order
-
 -- the parts of a query fit rows of these kinds, whatever its groups are
 pub record KeepsKinds (columns : List Kind) (q : Query) : Type 0 where
   pub filter : FitsCond columns q.filter
@@ -135,3 +126,8 @@ pub record KeepsKinds (columns : List Kind) (q : Query) : Type 0 where
 pub record KeepsGroups (q : Query) : Type 0 where
   pub items : aggregates_rows q ≡ true → AllByRecursion (IsOfGroup q.groups) q.items
   pub order : aggregates_rows q ≡ true → AllByRecursion (λ key. IsOfGroup q.groups key.item) q.order
+
+-- a query fits rows of these kinds
+pub record FitsQuery (columns : List Kind) (q : Query) : Type 0 where
+  pub kinds : KeepsKinds columns q
+  pub groups : KeepsGroups q

@@ -1,9 +1,3 @@
 pub mod Eval
 pub mod Fits
-pub mod Answers
-pub mod Laws
-pub mod Blocks
-pub mod Kept
-pub mod Lines
 pub mod Tables
-pub mod Groups

@@ -19,6 +19,6 @@ granule_limit = 65536
 -- the table has a key, of columns that are there, and granules of at least one row and not too many
 pub record TableFits (table : Table) : Type 0 where
   pub keyed : 1 ≤ length table.key
-  pub within : AllByRecursion (λ place. place < length table.columns) table.key
+  pub within : AllByRecursion (λ index. index < length table.columns) table.key
   pub some_rows : 1 ≤ table.granularity
   pub few_rows : table.granularity ≤ granule_limit

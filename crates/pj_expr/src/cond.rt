@@ -22,7 +22,7 @@ pub enum Op {
 /// A condition on a row.
 #[derive(Debug, Drop)]
 pub enum Cond {
-    /// Each row holds it.
+    /// Each row satisfies it.
     All,
     Compare(Op, Expr, Expr),
     And(Boxed<Cond>, Boxed<Cond>),

@@ -18,7 +18,7 @@ pub fn eval_row<'a>(expr: &'a Expr, rows: &'a Rows, at: usize) -> Cell<'a>
     eval_or_none(expr, rows, at)
 }
 
-/// Whether a row holds a condition.
+/// Whether a row satisfies a condition.
 pub fn holds_row(filter: &Cond, rows: &Rows, at: usize) -> bool
     requires fits { FitsCond rows.now.kinds filter.now }
     requires at { at < length rows.now.rows }
@@ -36,7 +36,7 @@ pub fn holds_row(filter: &Cond, rows: &Rows, at: usize) -> bool
 }
 
 /// The value of an expression at a row, and for a row without values where there is none.
-pub(crate) fn eval_or_none<'a>(expr: &'a Expr, rows: &'a Rows, at: usize) -> Cell<'a>
+pub fn eval_or_none<'a>(expr: &'a Expr, rows: &'a Rows, at: usize) -> Cell<'a>
     requires { FitsExpr rows.now.kinds expr.now }
     ensures { value_of result ≡ eval expr.now (slice_index_or rows.now.rows at []) }
 {
@@ -72,7 +72,7 @@ pub(crate) fn eval_or_none<'a>(expr: &'a Expr, rows: &'a Rows, at: usize) -> Cel
 }
 
 /// The number that a cell lends, 0 for a text.
-pub(crate) fn number_of(cell: Cell<'_>) -> u64
+pub fn number_of(cell: Cell<'_>) -> u64
     ensures { result ≡ number_in (value_of cell.entry) }
 {
     match cell {

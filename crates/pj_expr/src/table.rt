@@ -36,7 +36,7 @@ impl ColumnDef {
     }
 }
 
-/// A table: its name, its columns, the places of its key's columns among them in the order of the key, and
+/// A table: its name, its columns, the indexes of its key's columns among them in the order of the key, and
 /// its settings.
 #[derive(Debug, Drop)]
 pub struct Table {

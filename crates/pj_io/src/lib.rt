@@ -6,8 +6,6 @@ mod memory;
 mod sink;
 mod source;
 mod sure;
-#[cfg(test)]
-mod tests;
 mod transfer;
 
 pub use edge::{ReaderSource, WriterSink};

@@ -12,8 +12,8 @@ pub enum GiveFault {
     /// The sink couldn't write. Its count of faults says so too.
     #[error("could not write")]
     Failed,
-    /// There was no memory for the call.
-    #[error("no memory")]
+    /// The call was out of memory.
+    #[error("out of memory")]
     NoMemory,
 }
 

@@ -19,7 +19,7 @@ pub trait Source {
     // How many calls failed, up to the last u64.
     ghost faults: { Self → ℕ };
 
-    /// Moves bytes to the front of `into` and says how many. A call that fails moves none.
+    /// Moves bytes to a prefix of `into` and says how many. A call that fails moves none.
     fn take(&mut self, into: &mut [u8]) -> Result<usize, Failed>
         ensures bound { ReadsAtMost result into.new }
         ensures bytes { ReadConsumes (left self.old) (left self.new) result into.new }

@@ -94,7 +94,7 @@ impl Sink for SureSink {
 
     ghost faults = { λ _. 0 };
 
-    /// Takes all the bytes, or has no memory.
+    /// Takes all the bytes, or is out of memory.
     fn give(&mut self, bytes: &[u8]) -> Result<usize, GiveFault>
         ensures bound { WritesAtMost result bytes.now }
         ensures some { IfOk result (λ n. 0 < length bytes.now → 0 < n) }

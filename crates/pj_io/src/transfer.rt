@@ -19,8 +19,8 @@ pub enum ReadFault {
     /// There are more bytes than the limit allows.
     #[error("too large")]
     TooLarge,
-    /// There was no memory for the bytes.
-    #[error("no memory")]
+    /// Out of memory for the bytes.
+    #[error("out of memory")]
     NoMemory,
 }
 

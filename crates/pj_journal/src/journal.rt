@@ -15,8 +15,8 @@ pub enum MoveFault {
     /// The journal holds as many entries as its limit says.
     #[error("the journal is full")]
     Full,
-    /// There was no memory for one more entry.
-    #[error("no memory")]
+    /// Out of memory for one more entry.
+    #[error("out of memory")]
     NoMemory,
 }
 

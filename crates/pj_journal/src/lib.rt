@@ -10,6 +10,3 @@ pub mod types;
 pub use catalog::TABLES;
 pub use entry::{Actor, Entry, What};
 pub use journal::{Journal, MoveFault};
-
-#[cfg(test)]
-mod tests;

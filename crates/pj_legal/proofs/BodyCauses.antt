@@ -1,5 +1,5 @@
 -- A body is read or can't be read, and binds or is refused.
-use Rattle.std.proofs.Common.{◌≡◌, ℕ, ◌<◌, zero, suc, true, false, Bool, List, [], ◌∷◌, length}
+use Rattle.std.proofs.Common.{◌≡◌, ℕ, ◌<◌, zero, suc, true, List, [], ◌∷◌, length}
 use Rattle.std.proofs.Common.{refl, sym, ap, subst, inl, inr, arith}
 use Rattle.std.specs.Prelude.{◌⊎◌, drop, codes}
 use Rattle.std.specs.List.{Any}
@@ -9,19 +9,19 @@ use Rattle.pj_lex.specs.declared.token.TokenKind.TheVariants as token_kinds
 use Rattle.pj_lex.specs.declared.token.Token.{Token}
 use Rattle.pj_lex.specs.Tokens.{AreTokens}
 use Rattle.pj_lex.proofs.BodyLaws.{tokens_or_break}
-use Rattle.pj_parse.specs.declared.types.Statement.{Statement}
-use Rattle.pj_parse.specs.Lexemes.{Lexeme, word, number, text, symbol, lexemes, spells}
-use Rattle.pj_parse.specs.GrammarStatements.{Line}
-use Rattle.pj_parse.specs.Statements.{tokens_limit, BeginsInsert, HasTooMany, place_of}
-use Rattle.pj_parse.proofs.WholeLine.{line_or_place}
+use Rattle.pj_grammar.specs.declared.types.Statement.{Statement}
+use Rattle.pj_grammar.specs.Lexemes.{Lexeme, word, number, text, symbol, lexemes, spells}
+use Rattle.pj_grammar.specs.grammar.Statements.{IsStatement}
+use Rattle.pj_grammar.specs.SyntaxErrors.{tokens_limit, BeginsInsert, HasTooMany, offset_of}
+use Rattle.pj_grammar.proofs.WholeSentence.{statement_or_error}
 use Rattle.pj_expr.specs.declared.table.Table.{Table}
 use Rattle.pj_bind.specs.declared.types.Bound.{Bound}
 use Rattle.pj_bind.specs.declared.types.LimitName.TheVariants.{Tokens, Text}
 use Rattle.pj_bind.specs.declared.types.Refusal.{Refusal}
 use Rattle.pj_bind.specs.declared.types.Refusal.TheVariants.{Syntax, Limit}
 use Rattle.pj_bind.proofs.BindLaws.{bound_or_refused}
-use Rattle.pj_legal.specs.Binding.{text_limit, IsLongText, HasLongText, BodyReads, IsUnreadable}
-use Rattle.pj_legal.specs.Binding.{BodyBinds, BodyIsRefused}
+use Rattle.pj_legal.specs.Bodies.{text_limit, IsLongText, HasLongText, BodyReads, IsUnreadable}
+use Rattle.pj_legal.specs.Bodies.{BodyBinds, IsBodyRefusal}
 
 -- it holds or doesn't
 abbrev Decided : Type 0 → Type 0
@@ -97,9 +97,9 @@ ReadOrNot body =
     ((statement : Statement) × BodyReads body statement) ⊎ ((refusal : Refusal) × IsUnreadable body refusal)
 
 -- a line of tokens that are not too many
-read_line : (body : List ℕ) (tokens : List Token) (statement : Statement) → AreTokens body tokens
-    → (HasTooMany (lexemes body tokens) → ⊥) → Line (lexemes body tokens) statement → ReadOrNot body
-read_line body tokens statement are few line =
+read_spelled : (body : List ℕ) (tokens : List Token) (statement : Statement) → AreTokens body tokens
+    → (HasTooMany (lexemes body tokens) → ⊥) → IsStatement (lexemes body tokens) statement → ReadOrNot body
+read_spelled body tokens statement are few spelled =
     elim (has_long_or_not tokens) [
       | inl long ↦ inr (
         Limit Text,
@@ -108,13 +108,13 @@ read_line body tokens statement are few line =
           are = are;
           few = few;
           statement = statement;
-          line = line;
+          spelled = spelled;
           long = long;
         },
       )
       | inr short ↦ inl (
         statement,
-        record { tokens = tokens; are = are; few = few; line = line; short = short },
+        record { tokens = tokens; are = are; few = few; spelled = spelled; short = short },
       )
     ]
 
@@ -122,11 +122,11 @@ read_line body tokens statement are few line =
 read_few : (body : List ℕ) (tokens : List Token) → AreTokens body tokens
     → (HasTooMany (lexemes body tokens) → ⊥) → ReadOrNot body
 read_few body tokens are few =
-    elim (line_or_place (lexemes body tokens)) [
-      | inl (statement, line) ↦ read_line body tokens statement are few line
-      | inr (count, place) ↦ inr (
-        Syntax (place_of body (drop count tokens)),
-        inr (record { tokens = tokens; are = are; few = few; place = (count, place, refl) }),
+    elim (statement_or_error (lexemes body tokens)) [
+      | inl (statement, spelled) ↦ read_spelled body tokens statement are few spelled
+      | inr (count, error) ↦ inr (
+        Syntax (offset_of body (drop count tokens)),
+        inr (record { tokens = tokens; are = are; few = few; error = (count, error, refl) }),
       )
     ]
 
@@ -146,7 +146,7 @@ body_read_or_not body =
 -- and binds, or is refused
 pub body_bound_or_refused : (tables : List Table) (body : List ℕ)
     → ((bound : Bound) × BodyBinds tables body bound)
-    ⊎ ((refusal : Refusal) × BodyIsRefused tables body refusal)
+    ⊎ ((refusal : Refusal) × IsBodyRefusal tables body refusal)
 body_bound_or_refused tables body =
     elim (body_read_or_not body) [
       | inl (statement, reads) ↦

@@ -3,10 +3,10 @@ use Rattle.std.proofs.Common.{◌≡◌, ℕ, List, refl, sym, ap, ◌∙◌, su
 use Rattle.std.specs.Prelude.{drop}
 use Rattle.pj_lex.specs.declared.token.Token.{Token}
 use Rattle.pj_lex.specs.Tokens.{AreTokens}
-use Rattle.pj_parse.specs.declared.types.Statement.{Statement}
-use Rattle.pj_parse.specs.Lexemes.{lexemes}
-use Rattle.pj_parse.specs.GrammarStatements.{Line}
-use Rattle.pj_parse.specs.Statements.{HasTooMany, place_of, IsSyntaxError}
+use Rattle.pj_grammar.specs.declared.types.Statement.{Statement}
+use Rattle.pj_grammar.specs.Lexemes.{lexemes}
+use Rattle.pj_grammar.specs.grammar.Statements.{IsStatement}
+use Rattle.pj_grammar.specs.SyntaxErrors.{HasTooMany, offset_of, IsSyntaxError}
 use Rattle.pj_expr.specs.declared.table.Table.{Table}
 use Rattle.pj_bind.specs.declared.types.Bound.{Bound}
 use Rattle.pj_bind.specs.declared.types.LimitName.TheVariants.{Tokens, Text}
@@ -14,10 +14,10 @@ use Rattle.pj_bind.specs.declared.types.Refusal.{Refusal}
 use Rattle.pj_bind.specs.declared.types.Refusal.TheVariants.{Syntax, Limit}
 use Rattle.pj_bind.specs.Binding.{IsBound, IsRefusal}
 use Rattle.pj_bind.proofs.BindLaws.{one_refusal, one_bound, no_bound_is_refused}
-use Rattle.pj_legal.specs.Binding.{HasLongText, BodyReads, IsOffGrammar, HasManyTokens, HasLongLine}
-use Rattle.pj_legal.specs.Binding.{IsUnreadable, BodyBinds, BodyIsRefused}
+use Rattle.pj_legal.specs.Bodies.{HasLongText, BodyReads, IsOffGrammar, HasManyTokens, HasLongStatement}
+use Rattle.pj_legal.specs.Bodies.{IsUnreadable, BodyBinds, IsBodyRefusal}
 use Rattle.pj_lex.proofs.BodyLaws.{one_list, no_tokens_with_a_break, one_break}
-use Rattle.pj_parse.proofs.WholeLine.{one_statement, one_place}
+use Rattle.pj_grammar.proofs.WholeSentence.{one_statement, one_error}
 use Rattle.pj_legal.specs.Laws.{HasOneMeaning, OneBodyReading, NoBoundBodyIsRefused, OneBodyBound}
 use Rattle.pj_legal.specs.Laws.{OneBodyRefusal}
 
@@ -30,14 +30,14 @@ module _ (laws : HasOneMeaning) (body : List ℕ) where
   pub BodyReads-one : (a b : Statement) → BodyReads body a → BodyReads body b → a ≡ b
   BodyReads-one a b r s =
       laws.one_statement (lexemes body s.tokens) a b
-      (moved (λ (ts : List Token). Line (lexemes body ts) a) r.tokens s.tokens r.are s.are r.line) s.line
+      (moved (λ (ts : List Token). IsStatement (lexemes body ts) a) r.tokens s.tokens r.are s.are r.spelled) s.spelled
 
-  -- a body off the grammar is no statement's line
-  no_line : (at : ℕ) (tokens : List Token) (statement : Statement) → IsOffGrammar body at
-      → AreTokens body tokens → Line (lexemes body tokens) statement → ⊥
-  no_line at tokens statement off are line =
-      off.place.1.no_line statement
-      (moved (λ (ts : List Token). Line (lexemes body ts) statement) tokens off.tokens are off.are line)
+  -- a body off the grammar spells no statement
+  no_statement_read : (at : ℕ) (tokens : List Token) (statement : Statement) → IsOffGrammar body at
+      → AreTokens body tokens → IsStatement (lexemes body tokens) statement → ⊥
+  no_statement_read at tokens statement off are spelled =
+      off.error.1.no_statement statement
+      (moved (λ (ts : List Token). IsStatement (lexemes body ts) statement) tokens off.tokens are off.are spelled)
 
   -- a body with too many tokens has not so few
   not_few : (tokens : List Token) → HasManyTokens body → AreTokens body tokens
@@ -45,21 +45,21 @@ module _ (laws : HasOneMeaning) (body : List ℕ) where
   not_few tokens (others, are, many) too few =
       few (moved (λ (ts : List Token). HasTooMany (lexemes body ts)) others tokens are too many)
 
-  -- two places off the grammar are one
+  -- two errors off the grammar are one
   one_off : (a b : ℕ) → IsOffGrammar body a → IsOffGrammar body b → a ≡ b
   one_off a b r s =
       let (m, first, at) =
-      moved (λ (ts : List Token). IsSyntaxError body ts a) r.tokens s.tokens r.are s.are r.place in
-      let (n, other, there) = s.place in
-      let count : m ≡ n = laws.one_place (lexemes body s.tokens) m n first other in
-      at ∙ ap (λ (k : ℕ). place_of body (drop k s.tokens)) count ∙ sym there
+      moved (λ (ts : List Token). IsSyntaxError body ts a) r.tokens s.tokens r.are s.are r.error in
+      let (n, other, there) = s.error in
+      let count : m ≡ n = laws.one_error (lexemes body s.tokens) m n first other in
+      at ∙ ap (λ (k : ℕ). offset_of body (drop k s.tokens)) count ∙ sym there
 
   -- a body that is read has no cause against it
   pub BodyReads-readable : (statement : Statement) (refusal : Refusal) → BodyReads body statement
       → IsUnreadable body refusal → ⊥
   BodyReads-readable statement (Syntax at) r (inl breaks) =
       laws.no_tokens_with_a_break body r.tokens at r.are breaks
-  BodyReads-readable statement (Syntax at) r (inr off) = no_line at r.tokens statement off r.are r.line
+  BodyReads-readable statement (Syntax at) r (inr off) = no_statement_read at r.tokens statement off r.are r.spelled
   BodyReads-readable statement (Limit Tokens) r many = not_few r.tokens many r.are r.few
   BodyReads-readable statement (Limit Text) r long =
       r.short (moved HasLongText long.tokens r.tokens long.are r.are long.long)
@@ -77,10 +77,10 @@ module _ (laws : HasOneMeaning) (body : List ℕ) where
   syntax_few at (inl breaks) many = laws.no_tokens_with_a_break body many.0 at many.1 breaks
   syntax_few at (inr off) many = not_few off.tokens many off.are off.few
 
-  -- and is no statement's line
-  syntax_short : (at : ℕ) → IsUnreadable body (Syntax at) → HasLongLine body → ⊥
+  -- and spells no statement
+  syntax_short : (at : ℕ) → IsUnreadable body (Syntax at) → HasLongStatement body → ⊥
   syntax_short at (inl breaks) long = laws.no_tokens_with_a_break body long.tokens at long.are breaks
-  syntax_short at (inr off) long = no_line at long.tokens long.statement off long.are long.line
+  syntax_short at (inr off) long = no_statement_read at long.tokens long.statement off long.are long.spelled
 
   -- a body can't be read for one first cause
   pub IsUnreadable-one : (a b : Refusal) → IsUnreadable body a → IsUnreadable body b → a ≡ b
@@ -105,11 +105,11 @@ module _ (laws : HasOneMeaning) (body : List ℕ) where
       subst (λ (x : Statement). IsRefusal tables x refusal) (BodyReads-one a b r s) is
 
   -- a body that binds isn't refused
-  pub BodyIsRefused-bound : (tables : List Table) (bound : Bound) (refusal : Refusal)
-      → BodyBinds tables body bound → BodyIsRefused tables body refusal → ⊥
-  BodyIsRefused-bound tables bound refusal (statement, reads, built, binds) (inl unreadable) =
+  pub IsBodyRefusal-bound : (tables : List Table) (bound : Bound) (refusal : Refusal)
+      → BodyBinds tables body bound → IsBodyRefusal tables body refusal → ⊥
+  IsBodyRefusal-bound tables bound refusal (statement, reads, built, binds) (inl unreadable) =
       BodyReads-readable statement refusal reads unreadable
-  BodyIsRefused-bound tables bound refusal (statement, reads, built, binds) (inr (other, too, is)) =
+  IsBodyRefusal-bound tables bound refusal (statement, reads, built, binds) (inr (other, too, is)) =
       no_bound_is_refused tables statement bound refusal built binds
       (IsRefusal-read tables other statement refusal too reads is)
 
@@ -121,14 +121,14 @@ module _ (laws : HasOneMeaning) (body : List ℕ) where
       (subst (λ (x : Statement). IsBound tables x b) (BodyReads-one other statement too reads) again)
 
   -- a body is refused in one way
-  pub BodyIsRefused-one : (tables : List Table) (a b : Refusal)
-      → BodyIsRefused tables body a → BodyIsRefused tables body b → a ≡ b
-  BodyIsRefused-one tables a b (inl r) (inl s) = IsUnreadable-one a b r s
-  BodyIsRefused-one tables a b (inl r) (inr (statement, reads, refused)) =
+  pub IsBodyRefusal-one : (tables : List Table) (a b : Refusal)
+      → IsBodyRefusal tables body a → IsBodyRefusal tables body b → a ≡ b
+  IsBodyRefusal-one tables a b (inl r) (inl s) = IsUnreadable-one a b r s
+  IsBodyRefusal-one tables a b (inl r) (inr (statement, reads, refused)) =
       absurd (BodyReads-readable statement a reads r)
-  BodyIsRefused-one tables a b (inr (statement, reads, refused)) (inl s) =
+  IsBodyRefusal-one tables a b (inr (statement, reads, refused)) (inl s) =
       absurd (BodyReads-readable statement b reads s)
-  BodyIsRefused-one tables a b (inr (statement, reads, refused)) (inr (other, too, again)) =
+  IsBodyRefusal-one tables a b (inr (statement, reads, refused)) (inr (other, too, again)) =
       one_refusal tables statement a b refused
       (IsRefusal-read tables other statement b too reads again)
 
@@ -138,7 +138,7 @@ OneBodyReading-from laws = λ body. BodyReads-one laws body
 
 -- isn't both bound and refused
 pub NoBoundBodyIsRefused-from : HasOneMeaning → NoBoundBodyIsRefused
-NoBoundBodyIsRefused-from laws = λ tables body. BodyIsRefused-bound laws body tables
+NoBoundBodyIsRefused-from laws = λ tables body. IsBodyRefusal-bound laws body tables
 
 -- binds in one way
 pub OneBodyBound-from : HasOneMeaning → OneBodyBound
@@ -146,7 +146,7 @@ OneBodyBound-from laws = λ tables body. BodyBinds-one laws body tables
 
 -- and is refused in one way
 pub OneBodyRefusal-from : HasOneMeaning → OneBodyRefusal
-OneBodyRefusal-from laws = λ tables body. BodyIsRefused-one laws body tables
+OneBodyRefusal-from laws = λ tables body. IsBodyRefusal-one laws body tables
 
 -- the laws of tokens and of the grammar hold
 pub one_meaning : HasOneMeaning
@@ -155,5 +155,5 @@ one_meaning = record {
   no_tokens_with_a_break = no_tokens_with_a_break;
   one_break = one_break;
   one_statement = one_statement;
-  one_place = one_place;
+  one_error = one_error;
 }

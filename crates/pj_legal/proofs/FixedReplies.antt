@@ -1,19 +1,19 @@
 -- The text of legal replies fixes them.
 use Rattle.std.proofs.Common.{◌≡◌, ℕ, ◌+◌, ◌<◌, ◌≤◌, ◌^◌, ◌++◌, length, zero, suc, Bool, true, false, cond}
 use Rattle.std.proofs.Common.{List, [], ◌∷◌, map, Option, Some, None, sym, refl, ap, ◌∙◌, subst, inl, inr}
-use Rattle.std.proofs.Common.{arith, append-nil, length-append}
-use Rattle.std.specs.Prelude.{◌==◌, ◌⊎◌, slice_get, Contains, slice_index_or}
+use Rattle.std.proofs.Common.{arith, length-append}
+use Rattle.std.specs.Prelude.{◌==◌, ◌⊎◌, slice_get, Contains}
 use Rattle.std.specs.List.{AllByRecursion, flat_map}
 use Rattle.std.specs.Fmt.{decimal}
-use Rattle.std.proofs.lemmas.Bool.{eq-eqb, cond_both}
-use Rattle.std.proofs.lemmas.Option.{none-some, same_Some, slice_get_within, slice_get-get_or}
+use Rattle.std.proofs.lemmas.Bool.{cond_both}
+use Rattle.std.proofs.lemmas.Option.{none-some, same_Some, slice_get-get_or}
 use Rattle.pj_expr.specs.declared.query.Query.{Query}
-use Rattle.pj_expr.specs.Answers.{item_kind}
+use Rattle.pj_answer.specs.Answers.{item_kind}
 use Rattle.pj_value.specs.Rows.{KindedRows}
-use Rattle.pj_parse.specs.declared.types.ScriptMode.{ScriptMode}
-use Rattle.pj_parse.specs.declared.types.ScriptLine.{ScriptLine}
-use Rattle.pj_parse.specs.declared.types.Script.{Script}
-use Rattle.pj_parse.specs.Lines.{IsName, AreLines, IsScript, pieces, onto_first}
+use Rattle.pj_script.specs.declared.types.ScriptMode.{ScriptMode}
+use Rattle.pj_script.specs.declared.types.ScriptLine.{ScriptLine}
+use Rattle.pj_script.specs.declared.types.Script.{Script}
+use Rattle.pj_script.specs.Lines.{IsName, AreLines, pieces, onto_first}
 use Rattle.pj_journal.specs.declared.entry.Actor.TheVariants.{Session}
 use Rattle.pj_journal.specs.declared.entry.What.TheVariants.{Looked}
 use Rattle.pj_journal.specs.declared.entry.Entry.{Entry}
@@ -23,20 +23,20 @@ use Rattle.pj_bind.specs.declared.types.Bound.{Bound}
 use Rattle.pj_bind.specs.declared.types.Bound.TheVariants as bounds
 use Rattle.pj_legal.specs.declared.reply.Reply.{Reply}
 use Rattle.pj_legal.specs.declared.reply.Reply.TheVariants as replies
-use Rattle.pj_legal.specs.Binding.{BodyBinds}
-use Rattle.pj_legal.specs.Statements.{Said, whole, statement_of, statements, said_by, Shown, shown_to}
+use Rattle.pj_legal.specs.Bodies.{BodyBinds}
+use Rattle.pj_legal.specs.Statements.{Request, whole, statement_of, statements, requests_by, Shown, shown_to}
 use Rattle.pj_legal.specs.Forms.{Course, BoundForm, Form, move_of}
-use Rattle.pj_legal.specs.Shares.{Takes, Went, Rise}
+use Rattle.pj_legal.specs.Shares.{Takes, Went}
 use Rattle.pj_legal.specs.Legal.{IsLegal}
 use Rattle.pj_legal.specs.Texts.{name_at, announced, following, reply_text, replies_text, as_line}
-use Rattle.pj_legal.specs.Laws.{lines_said, IsPlain}
-use Rattle.pj_legal.specs.ToldReplies.{IsClean, HaveOneShape, FitsReply, TextFixesReplies}
+use Rattle.pj_legal.specs.Laws.{IsPlain}
+use Rattle.pj_legal.specs.FixedReplies.{IsClean, HaveOneShape, FitsReply, TextFixesReplies}
 use Rattle.pj_legal.proofs.BodyLaws.{BodyBinds-one, one_meaning}
 use Rattle.pj_legal.proofs.LegalNames.{slice_get_push}
+use Rattle.pj_legal.proofs.ListLemmas.{All-append}
 use Rattle.pj_legal.proofs.PlainReplies.{All-sessions, IsLegal-plain}
-use Rattle.pj_legal.proofs.RunLemmas.{AreWhole}
 use Rattle.pj_legal.proofs.TextLaws.{reply_text-same}
-use Rattle.pj_legal.proofs.ToldLemmas.{reply_text-told}
+use Rattle.pj_legal.proofs.ReadReplies.{reply_text-read}
 
 -- ---- a script's names and lines
 
@@ -70,11 +70,6 @@ Differ-push names name differ new i j n first other =
     by (inr last) (inl old) = absurd (new (subst (Contains names) (sym last.1) (Contains-get names j n old)))
     by (inr last) (inr end) = last.0 ∙ sym end.0
 
-All-push : {X : Type 0} (P : X → Type 0) (xs : List X) (x : X) → AllByRecursion P xs → P x
-    → AllByRecursion P (xs ++ x ∷ [])
-All-push P [] x all holds = (holds, tt)
-All-push P (y ∷ ys) x all holds = (all.0, All-push P ys x all.1 holds)
-
 AreNames-lines : (mode : ScriptMode) (at : ℕ) (before : List (List ℕ)) (ps : List (List ℕ))
     (ls : List ScriptLine) (after : List (List ℕ)) → AreLines mode at before ps ls after → AreNames before
     → AreNames after
@@ -86,7 +81,7 @@ AreNames-lines mode at before (p ∷ ps) ls after (inr (line, others, now, spell
       | inl known ↦ subst AreNames (sym known.1) names
       | inr new ↦
           subst AreNames (sym new.2) (
-            All-push IsName before spells.name names.0 spells.spelled.named,
+            All-append IsName before (spells.name ∷ []) names.0 (spells.spelled.named, tt),
             Differ-push before spells.name names.1 new.0,
           )
     ])
@@ -143,13 +138,13 @@ In x [] = ⊥
 In x (y ∷ ys) = (x ≡ y) ⊎ In x ys
 
 -- statements that are whole, on rising lines below this one
-abbrev AreInOrder : ℕ → ℕ → List Said → Type 0
+abbrev AreInOrder : ℕ → ℕ → List Request → Type 0
 AreInOrder low high [] = Unit {0}
-AreInOrder low high (said ∷ saids) =
-    (low < said.line) × (said.line < high) × (said.shown ≡ Some said.line) × AreInOrder said.line high saids
+AreInOrder low high (request ∷ requests) =
+    (low < request.line) × (request.line < high) × (request.shown ≡ Some request.line) × AreInOrder request.line high requests
 
-AreInOrder-weaken : (low next high : ℕ) (saids : List Said) → low ≤ next → AreInOrder next high saids
-    → AreInOrder low high saids
+AreInOrder-weaken : (low next high : ℕ) (requests : List Request) → low ≤ next → AreInOrder next high requests
+    → AreInOrder low high requests
 AreInOrder-weaken low next high [] le all = tt
 AreInOrder-weaken low next high (s ∷ ss) le all = (omega (arith, all.0), all.1, all.2, all.3)
 
@@ -159,110 +154,110 @@ AreInOrder-statements low high [] all = tt
 AreInOrder-statements low high (l ∷ ls) all =
     (all.0, all.1, refl, AreInOrder-statements l.line high ls all.2)
 
-AreInOrder-step : (low high : ℕ) (b : Bool) (said : Said) (saids : List Said) → low < said.line
-    → said.line < high → said.shown ≡ Some said.line → AreInOrder said.line high saids
-    → AreInOrder low high (cond b (said ∷ saids) saids)
-AreInOrder-step low high true said saids lt within whole rest = (lt, within, whole, rest)
-AreInOrder-step low high false said saids lt within whole rest =
-    AreInOrder-weaken low said.line high saids (omega (arith, lt)) rest
+AreInOrder-step : (low high : ℕ) (b : Bool) (request : Request) (requests : List Request) → low < request.line
+    → request.line < high → request.shown ≡ Some request.line → AreInOrder request.line high requests
+    → AreInOrder low high (cond b (request ∷ requests) requests)
+AreInOrder-step low high true request requests lt within whole rest = (lt, within, whole, rest)
+AreInOrder-step low high false request requests lt within whole rest =
+    AreInOrder-weaken low request.line high requests (omega (arith, lt)) rest
 
-AreInOrder-said_by : (low high session : ℕ) (saids : List Said) → AreInOrder low high saids
-    → AreInOrder low high (said_by session saids)
-AreInOrder-said_by low high session [] all = tt
-AreInOrder-said_by low high session (said ∷ saids) all =
-    AreInOrder-step low high (said.session == session) said (said_by session saids) all.0 all.1 all.2
-    (AreInOrder-said_by said.line high session saids all.3)
+AreInOrder-requests_by : (low high session : ℕ) (requests : List Request) → AreInOrder low high requests
+    → AreInOrder low high (requests_by session requests)
+AreInOrder-requests_by low high session [] all = tt
+AreInOrder-requests_by low high session (request ∷ requests) all =
+    AreInOrder-step low high (request.session == session) request (requests_by session requests) all.0 all.1 all.2
+    (AreInOrder-requests_by request.line high session requests all.3)
 
 -- a statement of the list: its line, and that it is whole
-In-facts : (low high : ℕ) (x : Said) (saids : List Said) → AreInOrder low high saids → In x saids
+In-facts : (low high : ℕ) (x : Request) (requests : List Request) → AreInOrder low high requests → In x requests
     → (low < x.line) × (x.line < high) × (x.shown ≡ Some x.line)
 In-facts low high x [] all is = absurd is
 In-facts low high x (s ∷ ss) all (inl same) =
-    subst (λ (y : Said). (low < y.line) × (y.line < high) × (y.shown ≡ Some y.line)) (sym same)
+    subst (λ (y : Request). (low < y.line) × (y.line < high) × (y.shown ≡ Some y.line)) (sym same)
     (all.0, all.1, all.2)
 In-facts low high x (s ∷ ss) all (inr later) =
     let facts = In-facts s.line high x ss all.3 later in
     (omega (arith, all.0, facts.0), facts.1, facts.2)
 
 -- two of one line are one
-In-one : (low high : ℕ) (x y : Said) (saids : List Said) → AreInOrder low high saids → In x saids
-    → In y saids → x.line ≡ y.line → x ≡ y
+In-one : (low high : ℕ) (x y : Request) (requests : List Request) → AreInOrder low high requests → In x requests
+    → In y requests → x.line ≡ y.line → x ≡ y
 In-one low high x y [] all first other same = absurd first
 In-one low high x y (s ∷ ss) all (inl a) (inl b) same = a ∙ sym b
 In-one low high x y (s ∷ ss) all (inl a) (inr b) same =
     let facts = In-facts s.line high y ss all.3 b in
-    let line : x.line ≡ s.line = ap (λ (z : Said). z.line) a in
+    let line : x.line ≡ s.line = ap (λ (z : Request). z.line) a in
     absurd (omega (arith, facts.0, line, same))
 In-one low high x y (s ∷ ss) all (inr a) (inl b) same =
     let facts = In-facts s.line high x ss all.3 a in
-    let line : y.line ≡ s.line = ap (λ (z : Said). z.line) b in
+    let line : y.line ≡ s.line = ap (λ (z : Request). z.line) b in
     absurd (omega (arith, facts.0, line, same))
 In-one low high x y (s ∷ ss) all (inr a) (inr b) same = In-one s.line high x y ss all.3 a b same
 
 -- the statement of a reply, with its form
-pub record IsTold (mine : List Move) (saids : List Said) (shown : Shown) : Type 0 where
-  pub said : Said
-  pub is : In said saids
-  pub at : said.shown ≡ Some shown.line
-  pub form : Form said (record { moves = for_line said.line mine; reply = Some shown.reply })
+pub record IsAsked (mine : List Move) (requests : List Request) (shown : Shown) : Type 0 where
+  pub request : Request
+  pub is : In request requests
+  pub at : request.shown ≡ Some shown.line
+  pub form : Form request (record { moves = for_line request.line mine; reply = Some shown.reply })
 
-IsTold-later : (mine : List Move) (s : Said) (saids : List Said) (shown : Shown) → IsTold mine saids shown
-    → IsTold mine (s ∷ saids) shown
-IsTold-later mine s saids shown told =
-    record { said = told.said; is = inr told.is; at = told.at; form = told.form }
+IsAsked-later : (mine : List Move) (s : Request) (requests : List Request) (shown : Shown) → IsAsked mine requests shown
+    → IsAsked mine (s ∷ requests) shown
+IsAsked-later mine s requests shown asked =
+    record { request = asked.request; is = inr asked.is; at = asked.at; form = asked.form }
 
-AllTold-later : (mine : List Move) (s : Said) (saids : List Said) (rs : List Shown)
-    → AllByRecursion (IsTold mine saids) rs → AllByRecursion (IsTold mine (s ∷ saids)) rs
-AllTold-later mine s saids [] all = tt
-AllTold-later mine s saids (r ∷ rs) all =
-    (IsTold-later mine s saids r all.0, AllTold-later mine s saids rs all.1)
+AllAsked-later : (mine : List Move) (s : Request) (requests : List Request) (rs : List Shown)
+    → AllByRecursion (IsAsked mine requests) rs → AllByRecursion (IsAsked mine (s ∷ requests)) rs
+AllAsked-later mine s requests [] all = tt
+AllAsked-later mine s requests (r ∷ rs) all =
+    (IsAsked-later mine s requests r all.0, AllAsked-later mine s requests rs all.1)
 
-Takes-told : (o : Option ℕ) (mine : List Move) (said : Said) (saids : List Said) (rs : List Shown)
-    → said.shown ≡ o
-    → ((more : List Shown) → Went Form mine saids more → AllByRecursion (IsTold mine saids) more)
-    → Takes o (λ reply. Form said (record { moves = for_line said.line mine; reply = reply }))
-    (Went Form mine saids) rs
-    → AllByRecursion (IsTold mine (said ∷ saids)) rs
-Takes-told None mine said saids rs is rest takes = AllTold-later mine said saids rs (rest rs takes.1)
-Takes-told (Some line) mine said saids [] is rest takes = absurd takes
-Takes-told (Some line) mine said saids (r ∷ rs) is rest takes = (
-  record { said = said; is = inl refl; at = is ∙ ap Some (sym takes.0); form = takes.1 },
-  AllTold-later mine said saids rs (rest rs takes.2),
+Takes-asked : (o : Option ℕ) (mine : List Move) (request : Request) (requests : List Request) (rs : List Shown)
+    → request.shown ≡ o
+    → ((more : List Shown) → Went Form mine requests more → AllByRecursion (IsAsked mine requests) more)
+    → Takes o (λ reply. Form request (record { moves = for_line request.line mine; reply = reply }))
+    (Went Form mine requests) rs
+    → AllByRecursion (IsAsked mine (request ∷ requests)) rs
+Takes-asked None mine request requests rs is rest takes = AllAsked-later mine request requests rs (rest rs takes.1)
+Takes-asked (Some line) mine request requests [] is rest takes = absurd takes
+Takes-asked (Some line) mine request requests (r ∷ rs) is rest takes = (
+  record { request = request; is = inl refl; at = is ∙ ap Some (sym takes.0); form = takes.1 },
+  AllAsked-later mine request requests rs (rest rs takes.2),
 )
 
-Went-told : (mine : List Move) (saids : List Said) (rs : List Shown) → Went Form mine saids rs
-    → AllByRecursion (IsTold mine saids) rs
-Went-told mine [] rs went = subst (AllByRecursion (IsTold mine [])) (sym went) tt
-Went-told mine (said ∷ saids) rs went =
-    Takes-told said.shown mine said saids rs refl (Went-told mine saids) went
+Went-asked : (mine : List Move) (requests : List Request) (rs : List Shown) → Went Form mine requests rs
+    → AllByRecursion (IsAsked mine requests) rs
+Went-asked mine [] rs went = subst (AllByRecursion (IsAsked mine [])) (sym went) tt
+Went-asked mine (request ∷ requests) rs went =
+    Takes-asked request.shown mine request requests rs refl (Went-asked mine requests) went
 
 -- ---- the kinds of a reply's columns
 
 -- rows answer the query of a SELECT that looked, and have the kinds of its items
-pub record AreOfSelect (said : Said) (ms : List Move) (out : KindedRows) : Type 0 where
+pub record AreOfSelect (request : Request) (ms : List Move) (out : KindedRows) : Type 0 where
   pub place : List Entry
   pub table : ℕ
   pub query : Query
-  pub binds : BodyBinds (catalog place) said.body (bounds.Select table query)
-  pub moves : ms ≡ move_of said place (Looked table) ∷ []
+  pub binds : BodyBinds (catalog place) request.body (bounds.Select table query)
+  pub moves : ms ≡ move_of request place (Looked table) ∷ []
   pub kinds : out.kinds ≡ map (item_kind (table_rows place table).kinds) query.items
 
-of_bound : (said : Said) (place : List Entry) (bound : Bound) (went : Course) (out : KindedRows)
-    → went.reply ≡ Some (replies.Rows out) → BodyBinds (catalog place) said.body bound
-    → BoundForm place said bound went → AreOfSelect said went.moves out
-of_bound said place (bounds.Create table) went out is binds form =
+of_bound : (request : Request) (place : List Entry) (bound : Bound) (went : Course) (out : KindedRows)
+    → went.reply ≡ Some (replies.Rows out) → BodyBinds (catalog place) request.body bound
+    → BoundForm place request bound went → AreOfSelect request went.moves out
+of_bound request place (bounds.Create table) went out is binds form =
     let same : Some replies.Done ≡ Some (replies.Rows out) = sym form.1 ∙ is in
     absurd (done_rows out (same_Some _ _ same))
   where
     done_rows : (out : KindedRows) → replies.Done ≡ replies.Rows out → ⊥
     done_rows out same = cc
-of_bound said place (bounds.Insert table rows) went out is binds form =
+of_bound request place (bounds.Insert table rows) went out is binds form =
     let same : Some replies.Done ≡ Some (replies.Rows out) = sym form.3 ∙ is in
     absurd (done_rows out (same_Some _ _ same))
   where
     done_rows : (out : KindedRows) → replies.Done ≡ replies.Rows out → ⊥
     done_rows out same = cc
-of_bound said place (bounds.Select table query) went out is binds (answer, right, moves, reply) =
+of_bound request place (bounds.Select table query) went out is binds (answer, right, moves, reply) =
     let same : answer ≡ out = rows_are answer out (same_Some _ _ (sym reply ∙ is)) in
     record {
       place = place;
@@ -279,17 +274,17 @@ of_bound said place (bounds.Select table query) went out is binds (answer, right
 refused_rows : (refusal : _) (out : KindedRows) → replies.Refused refusal ≡ replies.Rows out → ⊥
 refused_rows refusal out same = cc
 
-of_form : (said : Said) (went : Course) (out : KindedRows) → went.reply ≡ Some (replies.Rows out)
-    → Form said went → AreOfSelect said went.moves out
-of_form said went out is (inl refused) =
+of_form : (request : Request) (went : Course) (out : KindedRows) → went.reply ≡ Some (replies.Rows out)
+    → Form request went → AreOfSelect request went.moves out
+of_form request went out is (inl refused) =
     absurd (refused_rows refused.refusal out (same_Some _ _ (sym refused.reply ∙ is)))
-of_form said went out is (inr (inl done)) =
-    of_bound said done.place done.bound went out is done.binds done.form
-of_form said went out is (inr (inr (inl starved))) =
+of_form request went out is (inr (inl done)) =
+    of_bound request done.place done.bound went out is done.binds done.form
+of_form request went out is (inr (inr (inl starved))) =
     absurd (refused_rows _ out (same_Some _ _ (sym starved.reply ∙ is)))
-of_form said went out is (inr (inr (inr (inl shut)))) =
+of_form request went out is (inr (inr (inr (inl shut)))) =
     absurd (refused_rows _ out (same_Some _ _ (sym shut.reply ∙ is)))
-of_form said went out is (inr (inr (inr (inr left)))) =
+of_form request went out is (inr (inr (inr (inr left)))) =
     absurd (none-some (replies.Rows out) (sym left.reply ∙ is))
 
 -- the place of the first of some moves
@@ -301,14 +296,14 @@ select_are : (t u : ℕ) (p q : Query) → bounds.Select t p ≡ bounds.Select u
 select_are t u p q same = (cc, cc)
 
 -- two rows that one SELECT gives have the same kinds
-kinds_are : (said : Said) (ms : List Move) (out other : KindedRows) → AreOfSelect said ms out
-    → AreOfSelect said ms other → out.kinds ≡ other.kinds
-kinds_are said ms out other a b =
+kinds_are : (request : Request) (ms : List Move) (out other : KindedRows) → AreOfSelect request ms out
+    → AreOfSelect request ms other → out.kinds ≡ other.kinds
+kinds_are request ms out other a b =
     let places : a.place ≡ b.place = ap first_place (sym a.moves ∙ b.moves) in
     let bound : bounds.Select a.table a.query ≡ bounds.Select b.table b.query =
-    BodyBinds-one one_meaning said.body (catalog b.place) (bounds.Select a.table a.query)
+    BodyBinds-one one_meaning request.body (catalog b.place) (bounds.Select a.table a.query)
     (bounds.Select b.table b.query)
-    (subst (λ (es : List Entry). BodyBinds (catalog es) said.body (bounds.Select a.table a.query)) places
+    (subst (λ (es : List Entry). BodyBinds (catalog es) request.body (bounds.Select a.table a.query)) places
     a.binds) b.binds in
     let (tables, queries) = select_are a.table b.table a.query b.query bound in
     a.kinds
@@ -316,17 +311,17 @@ kinds_are said ms out other a b =
     ∙ sym b.kinds
 
 -- two replies to one statement have one shape
-shapes_are : (said : Said) (ms : List Move) (r s : Reply)
-    → Form said (record { moves = ms; reply = Some r }) → Form said (record { moves = ms; reply = Some s })
+shapes_are : (request : Request) (ms : List Move) (r s : Reply)
+    → Form request (record { moves = ms; reply = Some r }) → Form request (record { moves = ms; reply = Some s })
     → HaveOneShape r s
-shapes_are said ms (replies.Rows out) (replies.Rows other) a b =
-    kinds_are said ms out other
-    (of_form said (record { moves = ms; reply = Some (replies.Rows out) }) out refl a)
-    (of_form said (record { moves = ms; reply = Some (replies.Rows other) }) other refl b)
-shapes_are said ms replies.Done s a b = tt
-shapes_are said ms (replies.Refused refusal) s a b = tt
-shapes_are said ms (replies.Rows out) replies.Done a b = tt
-shapes_are said ms (replies.Rows out) (replies.Refused refusal) a b = tt
+shapes_are request ms (replies.Rows out) (replies.Rows other) a b =
+    kinds_are request ms out other
+    (of_form request (record { moves = ms; reply = Some (replies.Rows out) }) out refl a)
+    (of_form request (record { moves = ms; reply = Some (replies.Rows other) }) other refl b)
+shapes_are request ms replies.Done s a b = tt
+shapes_are request ms (replies.Refused refusal) s a b = tt
+shapes_are request ms (replies.Rows out) replies.Done a b = tt
+shapes_are request ms (replies.Rows out) (replies.Refused refusal) a b = tt
 
 -- ---- all of it
 
@@ -338,20 +333,20 @@ clean_from (replies.Refused refusal) plain fits = (plain, fits)
 -- what is known of each reply of a legal list
 pub record IsKnown (script : Script) (h : List Entry) (shown : Shown) : Type 0 where
   pub heard : shown.session < length script.names
-  pub told :
-      IsTold (moves_by (Session shown.session) h) (said_by shown.session (statements script)) shown
+  pub asked :
+      IsAsked (moves_by (Session shown.session) h) (requests_by shown.session (statements script)) shown
   pub clean : IsClean shown.reply
 
 AllKnown : (script : Script) (h : List Entry) (rs : List Shown)
     → AllByRecursion (λ shown. shown.session < length script.names) rs
-    → AllByRecursion (λ shown. IsTold (moves_by (Session shown.session) h)
-    (said_by shown.session (statements script)) shown) rs
+    → AllByRecursion (λ shown. IsAsked (moves_by (Session shown.session) h)
+    (requests_by shown.session (statements script)) shown) rs
     → AllByRecursion (λ shown. IsPlain shown.reply) rs → AllByRecursion (λ shown. FitsReply shown.reply) rs
     → AllByRecursion (IsKnown script h) rs
-AllKnown script h [] heard told plain fits = tt
-AllKnown script h (r ∷ rs) heard told plain fits = (
-  record { heard = heard.0; told = told.0; clean = clean_from r.reply plain.0 fits.0 },
-  AllKnown script h rs heard.1 told.1 plain.1 fits.1,
+AllKnown script h [] heard asked plain fits = tt
+AllKnown script h (r ∷ rs) heard asked plain fits = (
+  record { heard = heard.0; asked = asked.0; clean = clean_from r.reply plain.0 fits.0 },
+  AllKnown script h rs heard.1 asked.1 plain.1 fits.1,
 )
 
 known_from : (script : Script) (h : List Entry) (rs : List Shown) → IsLegal script h rs
@@ -359,9 +354,9 @@ known_from : (script : Script) (h : List Entry) (rs : List Shown) → IsLegal sc
 known_from script h rs legal fits =
     AllKnown script h rs legal.heard
     (All-sessions
-    (λ session. IsTold (moves_by (Session session) h) (said_by session (statements script)))
+    (λ session. IsAsked (moves_by (Session session) h) (requests_by session (statements script)))
     (length script.names) rs legal.heard
-    (λ session there. Went-told (moves_by (Session session) h) (said_by session (statements script))
+    (λ session there. Went-asked (moves_by (Session session) h) (requests_by session (statements script))
     (shown_to session rs) (legal.sessions session there).answered))
     (IsLegal-plain script h rs legal) fits
 
@@ -398,9 +393,9 @@ module _ (script : Script) (h : List Entry) (names : AreNames script.names) (hig
   -- the line of a known reply is one of 32 bits
   small_line : (r : Shown) → IsKnown script h r → r.line < 2 ^ 32
   small_line r known =
-      let facts = In-facts 0 high known.told.said (said_by r.session (statements script))
-      (AreInOrder-said_by 0 high r.session (statements script) order) known.told.is in
-      let line : known.told.said.line ≡ r.line = same_Some _ _ (sym facts.2 ∙ known.told.at) in
+      let facts = In-facts 0 high known.asked.request (requests_by r.session (statements script))
+      (AreInOrder-requests_by 0 high r.session (statements script) order) known.asked.is in
+      let line : known.asked.request.line ≡ r.line = same_Some _ _ (sym facts.2 ∙ known.asked.at) in
       omega (arith, facts.1, line, small)
 
   -- known replies at one line to one session have one shape
@@ -408,19 +403,19 @@ module _ (script : Script) (h : List Entry) (names : AreNames script.names) (hig
       → r.session ≡ s.session → HaveOneShape r.reply s.reply
   one_shape r s a b lines sessions =
       let mine : List Move = moves_by (Session s.session) h in
-      let saids : List Said = said_by s.session (statements script) in
-      let in_order = AreInOrder-said_by 0 high s.session (statements script) order in
-      let moved : IsTold mine saids r =
-      subst (λ i. IsTold (moves_by (Session i) h) (said_by i (statements script)) r) sessions a.told in
-      let facts = In-facts 0 high moved.said saids in_order moved.is in
-      let too = In-facts 0 high b.told.said saids in_order b.told.is in
-      let line : moved.said.line ≡ r.line = same_Some _ _ (sym facts.2 ∙ moved.at) in
-      let other : b.told.said.line ≡ s.line = same_Some _ _ (sym too.2 ∙ b.told.at) in
-      let same : moved.said ≡ b.told.said =
-      In-one 0 high moved.said b.told.said saids in_order moved.is b.told.is (line ∙ lines ∙ sym other) in
-      shapes_are b.told.said (for_line b.told.said.line mine) r.reply s.reply
-      (subst (λ (x : Said). Form x (record { moves = for_line x.line mine; reply = Some r.reply })) same
-      moved.form) b.told.form
+      let requests : List Request = requests_by s.session (statements script) in
+      let in_order = AreInOrder-requests_by 0 high s.session (statements script) order in
+      let moved : IsAsked mine requests r =
+      subst (λ i. IsAsked (moves_by (Session i) h) (requests_by i (statements script)) r) sessions a.asked in
+      let facts = In-facts 0 high moved.request requests in_order moved.is in
+      let too = In-facts 0 high b.asked.request requests in_order b.asked.is in
+      let line : moved.request.line ≡ r.line = same_Some _ _ (sym facts.2 ∙ moved.at) in
+      let other : b.asked.request.line ≡ s.line = same_Some _ _ (sym too.2 ∙ b.asked.at) in
+      let same : moved.request ≡ b.asked.request =
+      In-one 0 high moved.request b.asked.request requests in_order moved.is b.asked.is (line ∙ lines ∙ sym other) in
+      shapes_are b.asked.request (for_line b.asked.request.line mine) r.reply s.reply
+      (subst (λ (x : Request). Form x (record { moves = for_line x.line mine; reply = Some r.reply })) same
+      moved.form) b.asked.form
 
   -- so the text fixes them, one by one
   fixed : (a b : List Shown) → AllByRecursion (IsKnown script h) a → AllByRecursion (IsKnown script h) b
@@ -437,15 +432,15 @@ module _ (script : Script) (h : List Entry) (names : AreNames script.names) (hig
       let other = IsName-at script.names s.session names.0 too.0.heard in
       let few = small_line r known.0 in
       let many = small_line s too.0 in
-      let told = reply_text-same r.line s.line (name_at script.names r.session) (name_at script.names s.session)
+      let asked = reply_text-same r.line s.line (name_at script.names r.session) (name_at script.names s.session)
       r.reply s.reply (replies_text script.names rs) (replies_text script.names ss) few many first other same in
       let sessions : r.session ≡ s.session =
-      one_session r.session s.session known.0.heard too.0.heard told.1 in
-      let all = reply_text-told r.line s.line (name_at script.names r.session) (name_at script.names s.session)
+      one_session r.session s.session known.0.heard too.0.heard asked.1 in
+      let all = reply_text-read r.line s.line (name_at script.names r.session) (name_at script.names s.session)
       r.reply s.reply (replies_text script.names rs) (replies_text script.names ss) few many first other
-      known.0.clean too.0.clean (one_shape r s known.0 too.0 told.0 sessions) same in
+      known.0.clean too.0.clean (one_shape r s known.0 too.0 asked.0 sessions) same in
       let rest : rs ≡ ss = fixed rs ss known.1 too.1 all.3 in
-      (λ i. record { line = told.0 i; session = sessions i; reply = all.2 i } ∷ rest i)
+      (λ i. record { line = asked.0 i; session = sessions i; reply = all.2 i } ∷ rest i)
 
 pub text_fixes_replies : TextFixesReplies
 text_fixes_replies mode bytes script h a b few spelled legal other fits too same =

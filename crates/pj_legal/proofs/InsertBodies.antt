@@ -3,9 +3,9 @@ use Rattle.std.proofs.Common.{◌≡◌, ℕ, ◌≤◌, List, length, ap, arith
 use Rattle.std.specs.List.{AllByRecursion}
 use Rattle.std.proofs.lemmas.List.Elements.{All-contains, All-from_recursion}
 use Rattle.pj_lex.specs.declared.token.Token.{Token}
-use Rattle.pj_parse.specs.declared.types.Statement.{Statement}
-use Rattle.pj_parse.specs.Inserts.{text_size, IsInsert}
-use Rattle.pj_legal.specs.Binding.{text_limit, HasLongText, BodyReads}
+use Rattle.pj_grammar.specs.declared.types.Statement.{Statement}
+use Rattle.pj_insert.specs.Inserts.{text_size, IsInsert}
+use Rattle.pj_legal.specs.Bodies.{text_limit, HasLongText, BodyReads}
 
 -- none of the texts is too long
 no_long : (tokens : List Token) → AllByRecursion (λ token. text_size token.kind ≤ text_limit) tokens
@@ -26,6 +26,6 @@ insert_reads body statement is =
       tokens = is.tokens;
       are = is.are;
       few = λ many. many.1 is.first;
-      line = is.line;
+      spelled = is.spelled;
       short = no_long is.tokens is.short;
     }

@@ -1,13 +1,13 @@
 -- Shares in longer histories.
-use Rattle.std.proofs.Common.{◌≡◌, ℕ, ◌<◌, ◌++◌, List, length, sym, ap, subst}
+use Rattle.std.proofs.Common.{◌≡◌, ℕ, ◌<◌, ◌++◌, List, length, sym, subst}
 use Rattle.std.specs.Prelude.{map, Contains}
 use Rattle.std.specs.List.{AllByRecursion}
-use Rattle.pj_parse.specs.declared.types.Script.{Script}
+use Rattle.pj_script.specs.declared.types.Script.{Script}
 use Rattle.pj_journal.specs.declared.entry.Actor.TheVariants.{Session, Worker}
 use Rattle.pj_journal.specs.declared.entry.Entry.{Entry}
 use Rattle.pj_journal.specs.History.{IsRegular}
 use Rattle.pj_journal.specs.Moves.{Move, moves_by}
-use Rattle.pj_legal.specs.Statements.{Said, statements, said_by, Shown, shown_to}
+use Rattle.pj_legal.specs.Statements.{Request, statements, requests_by, Shown, shown_to}
 use Rattle.pj_legal.specs.Forms.{Form}
 use Rattle.pj_legal.specs.Shares.{SessionShare, WorkerShare, Went, NeverFall, Rise, IsTask, lines_of}
 use Rattle.pj_legal.specs.Legal.{IsActor, IsLegal}
@@ -15,18 +15,18 @@ use Rattle.pj_legal.specs.Joining.{AreNotBy, HoldsInPrefix}
 use Rattle.pj_legal.proofs.MoveLemmas.{moves_by-more}
 
 -- a session's share, where it makes no more moves
-pub SessionShare-more : (session : ℕ) (saids : List Said) (h more : List Entry) (replies : List Shown)
-    → AreNotBy (Session session) more → SessionShare session saids h replies
-    → SessionShare session saids (h ++ more) replies
-SessionShare-more session saids h more replies none share =
+pub SessionShare-more : (session : ℕ) (requests : List Request) (h more : List Entry) (replies : List Shown)
+    → AreNotBy (Session session) more → SessionShare session requests h replies
+    → SessionShare session requests (h ++ more) replies
+SessionShare-more session requests h more replies none share =
     let same : moves_by (Session session) h ≡ moves_by (Session session) (h ++ more) =
     sym (moves_by-more (Session session) h more none) in
     record {
       owned =
-          subst (AllByRecursion (λ (m : Move). Contains (map (λ (s : Said). s.line) saids) m.entry.line))
+          subst (AllByRecursion (λ (m : Move). Contains (map (λ (s : Request). s.line) requests) m.entry.line))
           same share.owned;
       order = subst (λ (ms : List Move). NeverFall 0 (lines_of ms)) same share.order;
-      answered = subst (λ (ms : List Move). Went Form ms saids replies) same share.answered;
+      answered = subst (λ (ms : List Move). Went Form ms requests replies) same share.answered;
     }
 
 -- a worker's
@@ -45,7 +45,7 @@ pub IsLegal-shares : (script : Script) (h : List Entry) (replies : List Shown)
     → IsRegular h → AllByRecursion (λ entry. IsActor (length script.names) entry.actor) h
     → AllByRecursion (λ shown. shown.session < length script.names) replies
     → ((session : ℕ) → session < length script.names
-    → HoldsInPrefix (Session session) h (λ seen. SessionShare session (said_by session (statements script))
+    → HoldsInPrefix (Session session) h (λ seen. SessionShare session (requests_by session (statements script))
     seen (shown_to session replies)))
     → ((worker : ℕ) → HoldsInPrefix (Worker worker) h (λ seen. WorkerShare worker seen))
     → IsLegal script h replies
@@ -55,9 +55,9 @@ IsLegal-shares script h replies regular actors heard sessions workers = record {
   heard = heard;
   sessions = λ session there.
       let one = sessions session there in
-      let saids : List Said = said_by session (statements script) in
-      subst (λ (es : List Entry). SessionShare session saids es (shown_to session replies)) (sym one.whole)
-      (SessionShare-more session saids one.seen one.more (shown_to session replies) one.none one.holds);
+      let requests : List Request = requests_by session (statements script) in
+      subst (λ (es : List Entry). SessionShare session requests es (shown_to session replies)) (sym one.whole)
+      (SessionShare-more session requests one.seen one.more (shown_to session replies) one.none one.holds);
   workers = λ worker.
       let one = workers worker in
       subst (WorkerShare worker) (sym one.whole)

@@ -1,13 +1,13 @@
 -- Moves, and those that an actor makes for a line.
-use Rattle.std.proofs.Common.{◌≡◌, ℕ, ◌<◌, ◌≤◌, ◌++◌, Bool, true, false, cond, List, [], ◌∷◌, length, map}
-use Rattle.std.proofs.Common.{sym, refl, ap, ◌∙◌, subst, arith, append-nil, append_assoc}
+use Rattle.std.proofs.Common.{◌≡◌, ℕ, ◌<◌, ◌≤◌, ◌++◌, Bool, true, false, cond, List, [], ◌∷◌, map}
+use Rattle.std.proofs.Common.{sym, refl, ap, ◌∙◌, arith, append-nil, append_assoc}
 use Rattle.std.specs.Prelude.{◌==◌, filter}
 use Rattle.std.specs.List.{AllByRecursion}
 use Rattle.std.proofs.lemmas.Bool.{eq-eqb, ne_eqb}
 use Rattle.std.proofs.lemmas.List.Elements.{filter-append}
 use Rattle.pj_journal.specs.declared.entry.Actor.{Actor}
 use Rattle.pj_journal.specs.declared.entry.Entry.{Entry}
-use Rattle.pj_journal.specs.Moves.{Move, moves_from, moves, is_by, moves_by, for_line}
+use Rattle.pj_journal.specs.Moves.{Move, moves_from, is_by, moves_by, for_line}
 use Rattle.pj_legal.specs.Shares.{NeverFall, lines_of}
 use Rattle.pj_legal.specs.Joining.{AreNotBy}
 

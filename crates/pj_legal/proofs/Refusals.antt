@@ -1,233 +1,125 @@
--- Which refusals a statement and its tables can give, and which names they give.
-use Rattle.std.proofs.Common.{◌≡◌, ℕ, zero, suc, List, [], ◌∷◌, ◌++◌, Option, Some, None, slice_get, Contains}
-use Rattle.std.proofs.Common.{Bool, not, refl, sym, subst, inl, inr}
-use Rattle.std.specs.List.{AllByRecursion, find}
-use Rattle.std.proofs.lemmas.Bool.{cond_both}
-use Rattle.std.proofs.lemmas.Option.{same_Some, none-some}
-use Rattle.pj_parse.specs.declared.types.Statement.{Statement}
-use Rattle.pj_parse.specs.declared.types.Statement.TheVariants as statements
-use Rattle.pj_parse.specs.declared.types.TreeColumn.{TreeColumn}
-use Rattle.pj_parse.specs.declared.types.TreeSelect.{TreeSelect}
-use Rattle.pj_value.specs.declared.value.Value.{Value}
+-- The refusals of a body: none is for a full journal, and none gives a name with a line feed.
+use Rattle.std.proofs.Common.{◌≡◌, ℕ, List, [], ◌∷◌, not, sym, subst, inl, inr}
+use Rattle.pj_grammar.specs.declared.types.Statement.{Statement}
+use Rattle.pj_grammar.specs.declared.types.Statement.TheVariants as statements
 use Rattle.pj_expr.specs.declared.table.Table.{Table}
-use Rattle.pj_bind.specs.declared.types.LimitName.TheVariants.{Tables, Columns, History}
+use Rattle.pj_bind.specs.declared.types.LimitName.TheVariants as limits
 use Rattle.pj_bind.specs.declared.types.Refusal.{Refusal}
-use Rattle.pj_bind.specs.declared.types.Refusal.TheVariants.{Limit, NotBuilt, UnknownTable}
-use Rattle.pj_bind.specs.declared.types.Refusal.TheVariants.{TableExists}
-use Rattle.pj_bind.specs.declared.types.Refusal.TheVariants.{DuplicateColumn, UnknownIdentifier, TypeMismatch}
-use Rattle.pj_bind.specs.declared.types.Refusal.TheVariants.{NotAnAggregate}
+use Rattle.pj_bind.specs.declared.types.Refusal.TheVariants as refusals
 use Rattle.pj_bind.specs.Causes.{Cause, ◌when◌, ◌naming◌}
 use Rattle.pj_bind.specs.Names.{Name, is_among, IsFirstRepeat, IsFirstUnknown}
 use Rattle.pj_bind.specs.Filling.{column_names, listed_names}
 use Rattle.pj_bind.specs.Queries.{column_names_of}
-use Rattle.pj_bind.specs.Binding.{new_names, At, causes, IsRefusal}
+use Rattle.pj_bind.specs.Binding.{new_names, At, causes}
 use Rattle.pj_bind.proofs.CauseLemmas.{Each, First-each}
-use Rattle.pj_legal.specs.Binding.{BodyIsRefused}
-use Rattle.pj_legal.proofs.SpelledWords.{All-front, All-back}
-use Rattle.pj_legal.proofs.StatementNames.{names_of}
+use Rattle.pj_legal.specs.Bodies.{IsUnreadable, IsBodyRefusal}
+use Rattle.pj_legal.specs.Laws.{IsOneLine, IsPlainRefusal}
+use Rattle.pj_legal.proofs.ListLemmas.{All-front, All-back, All-slice_get, All-find}
+use Rattle.pj_legal.proofs.PlainTrees.{ArePlain}
+use Rattle.pj_legal.proofs.PlainStatements.{IsPlainStatement}
+use Rattle.pj_legal.proofs.PlainLexemes.{plain-body}
 
--- what a cause's refusals are
-abbrev Gives : (Refusal → Type 0) → Cause → Type 0
-Gives P cause = (refusal : Refusal) → cause refusal → P refusal
+-- no line feed in a name that it gives, and it isn't for a full journal
+abbrev pub IsPlainCause : Refusal → Type 0
+IsPlainCause refusal = IsPlainRefusal refusal × (refusal ≡ refusals.Limit limits.History → ⊥)
 
-module _ (P : Refusal → Type 0) where
-  gives_when : (this : Refusal) (fact : Type 0) → (fact → P this) → Gives P (this when fact)
-  gives_when this fact holds refusal h = subst P (sym h.0) (holds h.1)
+-- the refusals of a cause are so
+abbrev Gives : Cause → Type 0
+Gives cause = (refusal : Refusal) → cause refusal → IsPlainCause refusal
 
-  gives_naming : (telling : Name → Refusal) (fact : Name → Type 0)
-      → ((name : Name) → fact name → P (telling name)) → Gives P (telling naming fact)
-  gives_naming telling fact holds refusal h = subst P (sym h.1) (holds h.0 h.2)
+gives_when : (this : Refusal) (fact : Type 0) → (fact → IsPlainCause this) → Gives (this when fact)
+gives_when this fact holds refusal h = subst IsPlainCause (sym h.0) (holds h.1)
 
-  gives_at : (tables : List Table) (name : Name) (cause : Table → Cause)
-      → ((table : Table) → Gives P (cause table)) → Gives P (At tables name cause)
-  gives_at tables name cause holds refusal h = holds h.1 refusal h.3
+gives_naming : (telling : Name → Refusal) (fact : Name → Type 0)
+    → ((name : Name) → fact name → IsPlainCause (telling name)) → Gives (telling naming fact)
+gives_naming telling fact holds refusal h = subst IsPlainCause (sym h.1) (holds h.0 h.2)
 
--- ---- a full journal
+gives_at : (tables : List Table) (name : Name) (cause : Table → Cause) → ((table : Table) → Gives (cause table))
+    → Gives (At tables name cause)
+gives_at tables name cause holds refusal h = holds h.1 refusal h.3
 
--- the refusal is none for a full journal
-abbrev NotHistory : Refusal → Type 0
-NotHistory refusal = refusal ≡ Limit History → ⊥
+-- a form that isn't built
+not_built : (fact : Type 0) → Gives (refusals.NotBuilt when fact)
+not_built fact = gives_when refusals.NotBuilt fact (λ h. (tt, λ e. cc))
 
-no_history : (tables : List Table) (s : Statement) → Each (Gives NotHistory) (causes tables s)
-no_history tables (statements.Create name columns projections key settings) = (
-  gives_when NotHistory NotBuilt _ (λ h e. cc),
-  (
-    gives_when NotHistory (TableExists name) _ (λ h e. cc),
-    (
-      gives_when NotHistory (Limit Tables) _ (λ h e. cc),
-      (
-        gives_when NotHistory (Limit Columns) _ (λ h e. cc),
-        (
-          gives_naming NotHistory DuplicateColumn _ (λ n h e. cc),
-          (
-            gives_naming NotHistory DuplicateColumn _ (λ n h e. cc),
-            (
-              gives_naming NotHistory UnknownIdentifier _ (λ n h e. cc),
-              tt,
-            ),
-          ),
-        ),
-      ),
-    ),
-  ),
-)
-no_history tables (statements.Insert name listed rows) = (
-  gives_when NotHistory NotBuilt _ (λ h e. cc),
-  (
-    gives_when NotHistory (UnknownTable name) _ (λ h e. cc),
-    (
-      gives_at NotHistory tables name _ (λ table. gives_naming NotHistory DuplicateColumn _ (λ n h e. cc)),
-      (
-        gives_at NotHistory tables name _ (λ table. gives_naming NotHistory UnknownIdentifier _ (λ n h e. cc)),
-        (
-          gives_at NotHistory tables name _ (λ table. gives_when NotHistory TypeMismatch _ (λ h e. cc)),
-          tt,
-        ),
-      ),
-    ),
-  ),
-)
-no_history tables (statements.Select select) = (
-  gives_when NotHistory NotBuilt _ (λ h e. cc),
-  (
-    gives_when NotHistory (UnknownTable select.table) _ (λ h e. cc),
-    (
-      gives_at NotHistory tables select.table _
-          (λ table. gives_naming NotHistory UnknownIdentifier _ (λ n h e. cc)),
-      (
-        gives_at NotHistory tables select.table _ (λ table. gives_when NotHistory TypeMismatch _ (λ h e. cc)),
-        (
-          gives_at NotHistory tables select.table _
-              (λ table. gives_when NotHistory NotAnAggregate _ (λ h e. cc)),
-          tt,
-        ),
-      ),
-    ),
-  ),
-)
-no_history tables (statements.Explain select) = (gives_when NotHistory NotBuilt _ (λ h e. cc), tt)
-no_history tables (statements.Delete name filter sets) = (gives_when NotHistory NotBuilt _ (λ h e. cc), tt)
-no_history tables (statements.Alter name action sets) = (gives_when NotHistory NotBuilt _ (λ h e. cc), tt)
-no_history tables (statements.Optimize name) = (gives_when NotHistory NotBuilt _ (λ h e. cc), tt)
-no_history tables (statements.Set sets) = (gives_when NotHistory NotBuilt _ (λ h e. cc), tt)
-no_history tables (statements.Merge name) = (gives_when NotHistory NotBuilt _ (λ h e. cc), tt)
-no_history tables (statements.Mutate name) = (gives_when NotHistory NotBuilt _ (λ h e. cc), tt)
+-- a name that repeats an earlier one
+repeats : (names : List Name) → ArePlain names → Gives (refusals.DuplicateColumn naming IsFirstRepeat names)
+repeats names all =
+    gives_naming refusals.DuplicateColumn (IsFirstRepeat names)
+    (λ name is. (All-slice_get IsOneLine names is.at name all is.there, λ e. cc))
 
--- no body is refused for it
-pub BodyIsRefused-history : (tables : List Table) (body : List ℕ) → BodyIsRefused tables body (Limit History)
-    → ⊥
-BodyIsRefused-history tables body (inl unreadable) = unreadable
-BodyIsRefused-history tables body (inr (s, reads, is)) =
-    First-each NotHistory (causes tables s) (no_history tables s) (Limit History) is refl
+-- one that is unknown
+unknown : (known names : List Name) → ArePlain names
+    → Gives (refusals.UnknownIdentifier naming IsFirstUnknown known names)
+unknown known names all =
+    gives_naming refusals.UnknownIdentifier (IsFirstUnknown known names)
+    (λ name is. (All-find IsOneLine (λ n. not (is_among known n)) names name all is, λ e. cc))
 
--- ---- names
+-- so are those of each of some causes
+record ArePlainCauses (causes : List Cause) : Type 0 where
+  each : Each Gives causes
 
--- what holds of each element holds of one that a place has
-All-slice_get : {X : Type 0} (P : X → Type 0) (xs : List X) (i : ℕ) (x : X) → AllByRecursion P xs
-    → slice_get xs i ≡ Some x → P x
-All-slice_get P [] i x all here = absurd (none-some x here)
-All-slice_get P (y ∷ ys) zero x all here = subst P (same_Some y x here) all.0
-All-slice_get P (y ∷ ys) (suc i) x all here = All-slice_get P ys i x all.1 here
+none : ArePlainCauses []
+none = record { each = tt }
 
--- and of the first that passes a test
-All-find : {X : Type 0} (P : X → Type 0) (test : X → Bool) (xs : List X) (x : X) → AllByRecursion P xs
-    → find test xs ≡ Some x → P x
-All-find P test [] x all here = absurd (none-some x here)
-All-find {X} P test (y ∷ ys) x all here =
-    cond_both (test y) (Some y) (find test ys) (λ (o : Option X). o ≡ Some x → P x)
-    (λ passes e. subst P (same_Some y x e) all.0) (λ fails e. All-find P test ys x all.1 e) here
+infixr 2 ◌also◌
+-- one cause, and more
+◌also◌ : {cause : Cause} {causes : List Cause} → Gives cause → ArePlainCauses causes
+    → ArePlainCauses (cause ∷ causes)
+one also more = record { each = (one, more.each) }
 
-module _ (P : Name → Type 0) where
-  -- the name that a refusal gives, if any, has this
-  abbrev pub Names : Refusal → Type 0
-  Names (UnknownTable name) = P name
-  Names (TableExists name) = P name
-  Names (DuplicateColumn name) = P name
-  Names (UnknownIdentifier name) = P name
-  Names refusal = Unit {0}
+-- those of a statement whose names are plain
+plain-causes : (tables : List Table) (s : Statement) → IsPlainStatement s → ArePlainCauses (causes tables s)
+plain-causes tables (statements.Create name columns projections key settings) all =
+    not_built _ also gives_when (refusals.TableExists name) _ (λ h. (all.0, λ e. cc))
+    also gives_when (refusals.Limit limits.Tables) _ (λ h. (tt, λ e. cc))
+    also gives_when (refusals.Limit limits.Columns) _ (λ h. (tt, λ e. cc))
+    also repeats (new_names columns) (All-front IsOneLine (new_names columns) key all.1) also repeats key of_key
+    also unknown (new_names columns) key of_key also none
+  where
+    of_key : ArePlain key
+    of_key = All-back IsOneLine (new_names columns) key all.1
+plain-causes tables (statements.Insert name listed rows) all =
+    not_built _ also gives_when (refusals.UnknownTable name) _ (λ h. (all.0, λ e. cc))
+    also gives_at tables name _ (λ table. repeats (listed_names listed) all.1)
+    also gives_at tables name _ (λ table. unknown (column_names table.columns) (listed_names listed) all.1)
+    also gives_at tables name _ (λ table. gives_when refusals.TypeMismatch _ (λ h. (tt, λ e. cc))) also none
+plain-causes tables (statements.Select select) all =
+    not_built _ also gives_when (refusals.UnknownTable select.table) _ (λ h. (all.0, λ e. cc))
+    also gives_at tables select.table _
+    (λ table. unknown (column_names table.columns) (column_names_of select) all.1)
+    also gives_at tables select.table _ (λ table. gives_when refusals.TypeMismatch _ (λ h. (tt, λ e. cc)))
+    also gives_at tables select.table _ (λ table. gives_when refusals.NotAnAggregate _ (λ h. (tt, λ e. cc)))
+    also none
+plain-causes tables (statements.Explain select) all = not_built _ also none
+plain-causes tables (statements.Delete name filter sets) all = not_built _ also none
+plain-causes tables (statements.Alter name action sets) all = not_built _ also none
+plain-causes tables (statements.Optimize name) all = not_built _ also none
+plain-causes tables (statements.Set sets) all = not_built _ also none
+plain-causes tables (statements.Merge name) all = not_built _ also none
+plain-causes tables (statements.Mutate name) all = not_built _ also none
 
-  -- a name that repeats an earlier one is one of the names
-  repeats : (names : List Name) (name : Name) → AllByRecursion P names → IsFirstRepeat names name → P name
-  repeats names name all is = All-slice_get P names is.at name all is.there
+-- and so is why a body can't be read
+plain-unreadable : (body : List ℕ) (refusal : Refusal) → IsUnreadable body refusal → IsPlainCause refusal
+plain-unreadable body (refusals.Syntax at) is = (tt, λ e. cc)
+plain-unreadable body (refusals.Limit limits.Tokens) is = (tt, λ e. cc)
+plain-unreadable body (refusals.Limit limits.Text) is = (tt, λ e. cc)
+plain-unreadable body (refusals.Limit limits.Tables) is = absurd is
+plain-unreadable body (refusals.Limit limits.Columns) is = absurd is
+plain-unreadable body (refusals.Limit limits.History) is = absurd is
+plain-unreadable body (refusals.UnknownTable name) is = absurd is
+plain-unreadable body (refusals.TableExists name) is = absurd is
+plain-unreadable body (refusals.DuplicateColumn name) is = absurd is
+plain-unreadable body (refusals.UnknownIdentifier name) is = absurd is
+plain-unreadable body refusals.TypeMismatch is = absurd is
+plain-unreadable body refusals.NotAnAggregate is = absurd is
+plain-unreadable body refusals.NotBuilt is = absurd is
+plain-unreadable body refusals.NoMemory is = absurd is
 
-  -- and so is one that is unknown
-  unknown : (known names : List Name) (name : Name) → AllByRecursion P names → IsFirstUnknown known names name
-      → P name
-  unknown known names name all is = All-find P (λ n. not (is_among known n)) names name all is
-
-  -- each cause of a statement gives no name, or one of the statement's
-  gives_names : (tables : List Table) (s : Statement) → AllByRecursion P (names_of s)
-      → Each (Gives Names) (causes tables s)
-  gives_names tables (statements.Create name columns projections key settings) all = (
-    gives_when Names NotBuilt _ (λ h. tt),
-    (
-      gives_when Names (TableExists name) _ (λ h. all.0),
-      (
-        gives_when Names (Limit Tables) _ (λ h. tt),
-        (
-          gives_when Names (Limit Columns) _ (λ h. tt),
-          (
-            gives_naming Names DuplicateColumn _
-                (λ n h. repeats (new_names columns) n (All-front P (new_names columns) key all.1) h),
-            (
-              gives_naming Names DuplicateColumn _
-                  (λ n h. repeats key n (All-back P (new_names columns) key all.1) h),
-              (
-                gives_naming Names UnknownIdentifier _
-                    (λ n h. unknown (new_names columns) key n (All-back P (new_names columns) key all.1) h),
-                tt,
-              ),
-            ),
-          ),
-        ),
-      ),
-    ),
-  )
-  gives_names tables (statements.Insert name listed rows) all = (
-    gives_when Names NotBuilt _ (λ h. tt),
-    (
-      gives_when Names (UnknownTable name) _ (λ h. all.0),
-      (
-        gives_at Names tables name _
-            (λ table. gives_naming Names DuplicateColumn _ (λ n h. repeats (listed_names listed) n all.1 h)),
-        (
-          gives_at Names tables name _ (λ table. gives_naming Names UnknownIdentifier _
-              (λ n h. unknown (column_names table.columns) (listed_names listed) n all.1 h)),
-          (
-            gives_at Names tables name _ (λ table. gives_when Names TypeMismatch _ (λ h. tt)),
-            tt,
-          ),
-        ),
-      ),
-    ),
-  )
-  gives_names tables (statements.Select select) all = (
-    gives_when Names NotBuilt _ (λ h. tt),
-    (
-      gives_when Names (UnknownTable select.table) _ (λ h. all.0),
-      (
-        gives_at Names tables select.table _ (λ table. gives_naming Names UnknownIdentifier _
-            (λ n h. unknown (column_names table.columns) (column_names_of select) n all.1 h)),
-        (
-          gives_at Names tables select.table _ (λ table. gives_when Names TypeMismatch _ (λ h. tt)),
-          (
-            gives_at Names tables select.table _ (λ table. gives_when Names NotAnAggregate _ (λ h. tt)),
-            tt,
-          ),
-        ),
-      ),
-    ),
-  )
-  gives_names tables (statements.Explain select) all = (gives_when Names NotBuilt _ (λ h. tt), tt)
-  gives_names tables (statements.Delete name filter sets) all = (gives_when Names NotBuilt _ (λ h. tt), tt)
-  gives_names tables (statements.Alter name action sets) all = (gives_when Names NotBuilt _ (λ h. tt), tt)
-  gives_names tables (statements.Optimize name) all = (gives_when Names NotBuilt _ (λ h. tt), tt)
-  gives_names tables (statements.Set sets) all = (gives_when Names NotBuilt _ (λ h. tt), tt)
-  gives_names tables (statements.Merge name) all = (gives_when Names NotBuilt _ (λ h. tt), tt)
-  gives_names tables (statements.Mutate name) all = (gives_when Names NotBuilt _ (λ h. tt), tt)
-
-  -- a refusal of a statement gives none but the statement's names
-  pub IsRefusal-names : (tables : List Table) (s : Statement) (refusal : Refusal)
-      → AllByRecursion P (names_of s) → IsRefusal tables s refusal → Names refusal
-  IsRefusal-names tables s refusal all is =
-      First-each Names (causes tables s) (gives_names tables s all) refusal is
+-- a body's refusal
+pub plain-refusal : (tables : List Table) (body : List ℕ) (refusal : Refusal)
+    → IsBodyRefusal tables body refusal
+    → IsPlainCause refusal
+plain-refusal tables body refusal (inl unreadable) = plain-unreadable body refusal unreadable
+plain-refusal tables body refusal (inr (s, reads, is)) =
+    First-each IsPlainCause (causes tables s) (plain-causes tables s (plain-body body s reads)).each refusal is

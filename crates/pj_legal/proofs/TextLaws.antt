@@ -10,7 +10,7 @@ use Rattle.std.proofs.lemmas.List.{append_cancel_left}
 use Rattle.std.proofs.lemmas.List.Concat.{flat_map-append}
 use Rattle.std.proofs.lemmas.Fmt.{decimal_injective}
 use Rattle.pj_lex.specs.Bytes.{is_small, AllAre}
-use Rattle.pj_parse.specs.Lines.{IsName, is_name_byte}
+use Rattle.pj_script.specs.Lines.{IsName, is_name_byte}
 use Rattle.pj_legal.specs.declared.reply.Reply.{Reply}
 use Rattle.pj_legal.specs.declared.reply.Reply.TheVariants as replies
 use Rattle.pj_bind.specs.declared.types.LimitName.{LimitName}
@@ -20,7 +20,7 @@ use Rattle.pj_bind.specs.declared.types.Refusal.TheVariants as refusals
 use Rattle.pj_legal.specs.Statements.{Shown}
 use Rattle.pj_legal.specs.Texts.{shown_text, replies_text, reply_text, limit_text, refusal_text}
 use Rattle.pj_legal.specs.Texts.{announced, following, as_line}
-use Rattle.pj_legal.specs.Laws.{IsPlainRefusal, IsPlain, HasSmallPlace, SayTheSame}
+use Rattle.pj_legal.specs.Laws.{IsPlainRefusal, IsPlain, HasSmallOffset, SayTheSame}
 
 -- one more reply
 pub replies_text-push : (names : List (List ℕ)) (replies : List Shown) (shown : Shown)
@@ -171,7 +171,7 @@ limit_text-same limits.History limits.History same = refl
 limit_text-same limit other same = absurd (omega (arith, ap (λ text. slice_index text 2) same))
 
 -- what a refusal says tells it
-refusal_text-same : (refusal other : Refusal) → HasSmallPlace refusal → HasSmallPlace other
+refusal_text-same : (refusal other : Refusal) → HasSmallOffset refusal → HasSmallOffset other
     → refusal_text refusal ≡ refusal_text other → refusal ≡ other
 refusal_text-same (refusals.Syntax at) (refusals.Syntax there) few many same =
     let places = append_cancel_left (codes "SYNTAX_ERROR ") (decimal at) (decimal there) same in

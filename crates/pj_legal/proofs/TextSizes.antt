@@ -1,12 +1,12 @@
 -- No text of a body is longer than the body: each piece has a byte at least.
 use Rattle.std.proofs.Common.{◌≡◌, ℕ, zero, suc, ◌+◌, ◌<◌, ◌≤◌, List, [], ◌∷◌, ◌++◌, length, get_or}
-use Rattle.std.proofs.Common.{Contains, inl, inr, refl, arith, length-append, zero-le}
+use Rattle.std.proofs.Common.{inl, inr, refl, arith, length-append, zero-le}
 use Rattle.pj_lex.specs.declared.token.Token.{Token}
 use Rattle.pj_lex.specs.declared.token.TokenKind.{TokenKind}
 use Rattle.pj_lex.specs.declared.token.TokenKind.TheVariants as kinds
-use Rattle.pj_lex.specs.Tokens.{escapes, IsPiece, ArePieces, Spells, IsFirst, Lead, AreTokens}
+use Rattle.pj_lex.specs.Tokens.{IsPiece, ArePieces, Spells, IsFirst, Lead, AreTokens}
 use Rattle.pj_lex.proofs.TextPieces.{IsEscape, escape_forms}
-use Rattle.pj_legal.specs.Binding.{text_limit, HasLongText}
+use Rattle.pj_legal.specs.Bodies.{text_limit, HasLongText}
 
 escape_some : (piece : List ℕ) (b : ℕ) → IsEscape piece b → 1 ≤ length piece
 escape_some piece b (inl x) = rw x.0 (omega arith)
@@ -39,8 +39,12 @@ length-text (kinds.Text t) bytes text e s =
 length-first : (here : ℕ) (bytes : List ℕ) (token : Token) (more : List ℕ)
     → (first : IsFirst here bytes token more) → length first.text + length more ≤ length bytes
 length-first here bytes token more first =
-    let all : length bytes ≡ length first.blanks + (length first.text + length more) =
-    rw (first.whole, length-append first.blanks (first.text ++ more), length-append first.text more) refl in
+    let all : length bytes ≡ length first.stands.blanks + (length first.text + length more) =
+    rw (
+      first.stands.whole,
+      length-append first.stands.blanks (first.text ++ more),
+      length-append first.text more,
+    ) refl in
     omega arith
 
 length-text_at : (here : ℕ) (bytes : List ℕ) (tokens : List Token) (there : ℕ) (rest : List ℕ)
@@ -50,7 +54,7 @@ length-text_at : (here : ℕ) (bytes : List ℕ) (tokens : List Token) (there : 
 length-text_at here bytes [] there rest at token text lead l e is = absurd (omega arith)
 length-text_at here bytes (t ∷ ts) there rest zero token text lead l e is =
     let kind : t.kind ≡ kinds.Text text = cc in
-    let own = length-text t.kind lead.1.text text kind lead.1.spelled in
+    let own = length-text t.kind lead.1.text text kind lead.1.stands.spelled in
     let whole = length-first here bytes t lead.0 lead.1 in omega arith
 length-text_at here bytes (t ∷ ts) there rest (suc at) token text lead l e is =
     let behind = length-text_at t.end lead.0 ts there rest at token text lead.2 (omega arith) e is in

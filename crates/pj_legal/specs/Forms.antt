@@ -2,7 +2,7 @@
 -- statements").
 use Rattle.std.specs.Prelude.{◌≡◌, ℕ, ◌⊎◌, List, [], ◌∷◌, Option, Some, None}
 use Rattle.pj_value.specs.Rows.{KindedRows}
-use Rattle.pj_expr.specs.Answers.{Answers}
+use Rattle.pj_answer.specs.Answers.{Answers}
 use Rattle.pj_journal.specs.declared.entry.Actor.TheVariants.{Session}
 use Rattle.pj_journal.specs.declared.entry.What.{What}
 use Rattle.pj_journal.specs.declared.entry.What.TheVariants as whats
@@ -16,8 +16,8 @@ use Rattle.pj_bind.specs.declared.types.Refusal.{Refusal}
 use Rattle.pj_bind.specs.declared.types.Refusal.TheVariants as refusals
 use Rattle.pj_legal.specs.declared.reply.Reply.{Reply}
 use Rattle.pj_legal.specs.declared.reply.Reply.TheVariants as replies
-use Rattle.pj_legal.specs.Binding.{BodyBinds, BodyIsRefused}
-use Rattle.pj_legal.specs.Statements.{Said}
+use Rattle.pj_legal.specs.Bodies.{BodyBinds, IsBodyRefusal}
+use Rattle.pj_legal.specs.Statements.{Request}
 
 -- how a statement went: its moves, in their order, and its reply; none where it never ends
 pub record Course : Type 0 where
@@ -25,14 +25,14 @@ pub record Course : Type 0 where
   pub reply : Option Reply
 
 -- a move of a statement
-abbrev pub entry_of : Said → What → Entry
-entry_of said what = record { actor = Session said.session; line = said.line; what = what }
+abbrev pub entry_of : Request → What → Entry
+entry_of request what = record { actor = Session request.session; line = request.line; what = what }
 
 -- the same, with its place
-abbrev pub move_of : Said → List Entry → What → Move
-move_of said place what = record { place = place; entry = entry_of said what }
+abbrev pub move_of : Request → List Entry → What → Move
+move_of request place what = record { place = place; entry = entry_of request what }
 
--- the reply to a statement that met want of memory
+-- the reply to a statement that ran out of memory
 abbrev pub no_memory : Reply
 no_memory = replies.Refused refusals.NoMemory
 
@@ -41,33 +41,33 @@ abbrev pub history_full : Reply
 history_full = replies.Refused (refusals.Limit History)
 
 -- the statement is refused at its place, and does nothing
-pub record IsRefused (said : Said) (course : Course) : Type 0 where
+pub record IsRefused (request : Request) (course : Course) : Type 0 where
   pub place : List Entry
   pub refusal : Refusal
-  pub cause : BodyIsRefused (catalog place) said.body refusal
-  pub moves : course.moves ≡ move_of said place whats.Refused ∷ []
+  pub cause : IsBodyRefusal (catalog place) request.body refusal
+  pub moves : course.moves ≡ move_of request place whats.Refused ∷ []
   pub reply : course.reply ≡ Some (replies.Refused refusal)
 
 -- the moves of a bound statement, from its place, with its reply
-abbrev pub BoundForm : List Entry → Said → Bound → Course → Type 0
-BoundForm place said (bounds.Create table) course =
-    (course.moves ≡ move_of said place (whats.Created table) ∷ []) × (course.reply ≡ Some replies.Done)
-BoundForm place said (bounds.Insert table rows) course =
+abbrev pub BoundForm : List Entry → Request → Bound → Course → Type 0
+BoundForm place request (bounds.Create table) course =
+    (course.moves ≡ move_of request place (whats.Created table) ∷ []) × (course.reply ≡ Some replies.Done)
+BoundForm place request (bounds.Insert table rows) course =
     (later : List Entry) × (block : ℕ)
-    × (course.moves ≡ move_of said place (whats.Begun table)
-    ∷ move_of said later (whats.Inserted table block rows) ∷ [])
+    × (course.moves ≡ move_of request place (whats.Begun table)
+    ∷ move_of request later (whats.Inserted table block rows) ∷ [])
     × (course.reply ≡ Some replies.Done)
-BoundForm place said (bounds.Select table query) course =
+BoundForm place request (bounds.Select table query) course =
     (out : KindedRows) × Answers query (table_rows place table) out
-    × (course.moves ≡ move_of said place (whats.Looked table) ∷ [])
+    × (course.moves ≡ move_of request place (whats.Looked table) ∷ [])
     × (course.reply ≡ Some (replies.Rows out))
 
 -- the statement binds at its place, and is done
-pub record IsDone (said : Said) (course : Course) : Type 0 where
+pub record IsDone (request : Request) (course : Course) : Type 0 where
   pub place : List Entry
   pub bound : Bound
-  pub binds : BodyBinds (catalog place) said.body bound
-  pub form : BoundForm place said bound course
+  pub binds : BodyBinds (catalog place) request.body bound
+  pub form : BoundForm place request bound course
 
 -- the first move of a bound statement
 abbrev pub IsFirstMove : Bound → What → Type 0
@@ -88,34 +88,34 @@ MovesOn (bounds.Insert table rows) what = what ≡ whats.Begun table
 MovesOn (bounds.Select table query) what = ⊥
 
 -- no move, or a first one of this sort
-abbrev pub StopsAfter : (Bound → What → Type 0) → Said → Course → Type 0
-StopsAfter sort said course =
+abbrev pub StopsAfter : (Bound → What → Type 0) → Request → Course → Type 0
+StopsAfter sort request course =
     (course.moves ≡ [])
-    ⊎ ((place : List Entry) × (bound : Bound) × (what : What) × BodyBinds (catalog place) said.body bound
-    × sort bound what × (course.moves ≡ move_of said place what ∷ []))
+    ⊎ ((place : List Entry) × (bound : Bound) × (what : What) × BodyBinds (catalog place) request.body bound
+    × sort bound what × (course.moves ≡ move_of request place what ∷ []))
 
 -- the statement is answered that there was no memory, before its first move or behind one that it may stop
 -- after
-pub record IsStarved (said : Said) (course : Course) : Type 0 where
-  pub stopped : StopsAfter MayStarve said course
+pub record IsStarved (request : Request) (course : Course) : Type 0 where
+  pub stopped : StopsAfter MayStarve request course
   pub reply : course.reply ≡ Some no_memory
 
 -- the statement is answered that the journal was full, before its first move or behind one that has another to
 -- come
-pub record IsShutOut (said : Said) (course : Course) : Type 0 where
-  pub stopped : StopsAfter MovesOn said course
+pub record IsShutOut (request : Request) (course : Course) : Type 0 where
+  pub stopped : StopsAfter MovesOn request course
   pub reply : course.reply ≡ Some history_full
 
 -- the statement never ends: it has its first move at most
-pub record IsLeftOpen (said : Said) (course : Course) : Type 0 where
+pub record IsLeftOpen (request : Request) (course : Course) : Type 0 where
   pub stopped :
-      ((place : List Entry) × (refusal : Refusal) × BodyIsRefused (catalog place) said.body refusal
-      × (course.moves ≡ move_of said place whats.Refused ∷ []))
-      ⊎ StopsAfter IsFirstMove said course
+      ((place : List Entry) × (refusal : Refusal) × IsBodyRefusal (catalog place) request.body refusal
+      × (course.moves ≡ move_of request place whats.Refused ∷ []))
+      ⊎ StopsAfter IsFirstMove request course
   pub reply : course.reply ≡ None
 
 -- the statement went in one of its forms
-abbrev pub Form : Said → Course → Type 0
-Form said course =
-    IsRefused said course ⊎ IsDone said course ⊎ IsStarved said course ⊎ IsShutOut said course
-    ⊎ IsLeftOpen said course
+abbrev pub Form : Request → Course → Type 0
+Form request course =
+    IsRefused request course ⊎ IsDone request course ⊎ IsStarved request course ⊎ IsShutOut request course
+    ⊎ IsLeftOpen request course

@@ -2,13 +2,13 @@
 -- knows a prefix of the history.
 use Rattle.std.specs.Prelude.{◌≡◌, ℕ, ◌<◌, false, List, ◌++◌, length}
 use Rattle.std.specs.List.{AllByRecursion}
-use Rattle.pj_parse.specs.declared.types.Script.{Script}
+use Rattle.pj_script.specs.declared.types.Script.{Script}
 use Rattle.pj_journal.specs.declared.entry.Actor.{Actor}
 use Rattle.pj_journal.specs.declared.entry.Actor.TheVariants.{Session, Worker}
 use Rattle.pj_journal.specs.declared.entry.Entry.{Entry}
 use Rattle.pj_journal.specs.History.{IsRegular}
 use Rattle.pj_journal.specs.Moves.{is_by}
-use Rattle.pj_legal.specs.Statements.{Said, statements, said_by, Shown, shown_to}
+use Rattle.pj_legal.specs.Statements.{Request, statements, requests_by, Shown, shown_to}
 use Rattle.pj_legal.specs.Shares.{SessionShare, WorkerShare}
 use Rattle.pj_legal.specs.Legal.{IsActor, IsLegal}
 
@@ -19,9 +19,9 @@ AreNotBy actor es = AllByRecursion (λ entry. is_by actor entry ≡ false) es
 -- a session's share holds in each longer history that has no further entry of it
 abbrev pub SessionSharesGoOn : Type 0
 SessionSharesGoOn =
-    (session : ℕ) (saids : List Said) (h more : List Entry) (replies : List Shown)
-    → AreNotBy (Session session) more → SessionShare session saids h replies
-    → SessionShare session saids (h ++ more) replies
+    (session : ℕ) (requests : List Request) (h more : List Entry) (replies : List Shown)
+    → AreNotBy (Session session) more → SessionShare session requests h replies
+    → SessionShare session requests (h ++ more) replies
 
 -- and so does a worker's
 abbrev pub WorkerSharesGoOn : Type 0
@@ -44,7 +44,7 @@ SharesAreLegal =
     → IsRegular h → AllByRecursion (λ entry. IsActor (length script.names) entry.actor) h
     → AllByRecursion (λ shown. shown.session < length script.names) replies
     → ((session : ℕ) → session < length script.names
-    → HoldsInPrefix (Session session) h (λ seen. SessionShare session (said_by session (statements script))
+    → HoldsInPrefix (Session session) h (λ seen. SessionShare session (requests_by session (statements script))
     seen (shown_to session replies)))
     → ((worker : ℕ) → HoldsInPrefix (Worker worker) h (λ seen. WorkerShare worker seen))
     → IsLegal script h replies

@@ -4,10 +4,10 @@ use Rattle.std.specs.Prelude.{take, Contains}
 use Rattle.std.specs.List.{AllByRecursion}
 use Rattle.std.specs.Fmt.{decimal}
 use Rattle.pj_lex.specs.Laws.{OneList, NoTokensWithABreak, OneBreak}
-use Rattle.pj_parse.specs.declared.types.Script.{Script}
-use Rattle.pj_parse.specs.declared.types.Statement.{Statement}
-use Rattle.pj_parse.specs.Lines.{IsName}
-use Rattle.pj_parse.specs.StatementLaws.{OneStatement, OnePlace}
+use Rattle.pj_script.specs.declared.types.Script.{Script}
+use Rattle.pj_grammar.specs.declared.types.Statement.{Statement}
+use Rattle.pj_script.specs.Lines.{IsName}
+use Rattle.pj_grammar.specs.Laws.{OneStatement, OneError}
 use Rattle.pj_journal.specs.declared.entry.Entry.{Entry}
 use Rattle.pj_expr.specs.declared.table.Table.{Table}
 use Rattle.pj_journal.specs.History.{IsRegular, catalog}
@@ -19,17 +19,17 @@ use Rattle.pj_bind.specs.declared.types.Refusal.{Refusal}
 use Rattle.pj_bind.specs.declared.types.Refusal.TheVariants.{Syntax, Limit, UnknownTable, TableExists}
 use Rattle.pj_bind.specs.declared.types.Refusal.TheVariants.{DuplicateColumn, UnknownIdentifier}
 use Rattle.pj_bind.specs.Laws.{HasUniqueNames}
-use Rattle.pj_legal.specs.Statements.{Said, statements, Shown}
+use Rattle.pj_legal.specs.Statements.{Request, statements, Shown}
 use Rattle.pj_legal.specs.Shares.{Rise}
 use Rattle.pj_legal.specs.Legal.{IsLegal, IsPlayed}
 use Rattle.pj_legal.specs.Full.{KeepsLimit}
 use Rattle.pj_legal.specs.Run.{Run, IsStep, shown_at, cut}
 use Rattle.pj_legal.specs.Texts.{replies_text, shown_text, reply_text, announced}
-use Rattle.pj_legal.specs.Binding.{BodyReads, IsUnreadable, BodyBinds, BodyIsRefused}
+use Rattle.pj_legal.specs.Bodies.{BodyReads, IsUnreadable, BodyBinds, IsBodyRefusal}
 
 -- the lines of statements
-abbrev pub lines_said : List Said → List ℕ
-lines_said saids = map (λ said. said.line) saids
+abbrev pub request_lines : List Request → List ℕ
+request_lines requests = map (λ request. request.line) requests
 
 -- each line of the script names a session of it
 abbrev pub AreNamed : Script → Type 0
@@ -39,7 +39,7 @@ AreNamed script = AllByRecursion (λ line. line.name < length script.names) scri
 abbrev pub RunsAreLegal : Type 0
 RunsAreLegal =
     (limit : ℕ) (script : Script) (replies : List Shown) (h : List Entry)
-    → Rise 0 (lines_said (statements script)) → AreNamed script
+    → Rise 0 (request_lines (statements script)) → AreNamed script
     → Run limit [] (statements script) replies h → IsRegular h → length h ≤ limit
     → IsPlayed script h replies × KeepsLimit limit script h replies
 
@@ -47,17 +47,17 @@ RunsAreLegal =
 abbrev pub CutRunsAreLegal : Type 0
 CutRunsAreLegal =
     (limit n : ℕ) (script : Script) (replies : List Shown) (h : List Entry)
-    → Rise 0 (lines_said (statements script)) → AreNamed script
+    → Rise 0 (request_lines (statements script)) → AreNamed script
     → Run limit [] (take n (statements script)) replies h → IsRegular h → length h ≤ limit
     → IsPlayed (cut n script) h replies × KeepsLimit limit (cut n script) h replies
 
 -- a run goes on by one more statement, from where it ended
 abbrev pub RunGoesOn : Type 0
 RunGoesOn =
-    (limit : ℕ) (place : List Entry) (saids : List Said) (replies : List Shown) (mid : List Entry)
-    (said : Said) (added : List Entry) (reply : Reply)
-    → Run limit place saids replies mid → IsStep limit mid said added reply
-    → Run limit place (saids ++ said ∷ []) (replies ++ shown_at said reply ∷ []) (mid ++ added)
+    (limit : ℕ) (place : List Entry) (requests : List Request) (replies : List Shown) (mid : List Entry)
+    (request : Request) (added : List Entry) (reply : Reply)
+    → Run limit place requests replies mid → IsStep limit mid request added reply
+    → Run limit place (requests ++ request ∷ []) (replies ++ shown_at request reply ∷ []) (mid ++ added)
 
 -- the text of one more reply stands behind those of the others
 abbrev pub TextsGoOn : Type 0
@@ -75,7 +75,7 @@ pub record HasOneMeaning : Type 0 where
   pub no_tokens_with_a_break : NoTokensWithABreak
   pub one_break : OneBreak
   pub one_statement : OneStatement
-  pub one_place : OnePlace
+  pub one_error : OneError
 
 -- a body is read as one statement at most
 abbrev pub OneBodyReading : Type 0
@@ -92,7 +92,7 @@ abbrev pub BodyBoundOrRefused : Type 0
 BodyBoundOrRefused =
     (tables : List Table) (body : List ℕ)
     → ((bound : Bound) × BodyBinds tables body bound)
-    ⊎ ((refusal : Refusal) × BodyIsRefused tables body refusal)
+    ⊎ ((refusal : Refusal) × IsBodyRefusal tables body refusal)
 
 -- a body binds in one way at most
 abbrev pub OneBodyBound : Type 0
@@ -104,17 +104,17 @@ OneBodyBound =
 abbrev pub NoBoundBodyIsRefused : Type 0
 NoBoundBodyIsRefused =
     (tables : List Table) (body : List ℕ) (bound : Bound) (refusal : Refusal) → BodyBinds tables body bound
-    → BodyIsRefused tables body refusal → ⊥
+    → IsBodyRefusal tables body refusal → ⊥
 
 -- a body is refused in one way at most
 abbrev pub OneBodyRefusal : Type 0
 OneBodyRefusal =
-    (tables : List Table) (body : List ℕ) (a b : Refusal) → BodyIsRefused tables body a
-    → BodyIsRefused tables body b → a ≡ b
+    (tables : List Table) (body : List ℕ) (a b : Refusal) → IsBodyRefusal tables body a
+    → IsBodyRefusal tables body b → a ≡ b
 
 -- no body is refused for a full journal: that cause stands in no body
 abbrev pub HistoryRefusesNoBody : Type 0
-HistoryRefusesNoBody = (tables : List Table) (body : List ℕ) → BodyIsRefused tables body (Limit History) → ⊥
+HistoryRefusesNoBody = (tables : List Table) (body : List ℕ) → IsBodyRefusal tables body (Limit History) → ⊥
 
 -- numbers of one text in decimal are one
 abbrev pub TextsTellNumbers : Type 0
@@ -152,10 +152,10 @@ RepliesAreToldApart =
     → reply_text l a r ++ more ≡ reply_text m b s ++ others
     → (l ≡ m) × (a ≡ b) × (IsPlain r → IsPlain s → announced r ≡ announced s)
 
--- the place that a refusal gives, if any, is below 2 ^ 64
-abbrev pub HasSmallPlace : Refusal → Type 0
-HasSmallPlace (Syntax at) = at < 2 ^ 64
-HasSmallPlace refusal = Unit {0}
+-- the offset that a refusal gives, if any, is below 2 ^ 64
+abbrev pub HasSmallOffset : Refusal → Type 0
+HasSmallOffset (Syntax at) = at < 2 ^ 64
+HasSmallOffset refusal = Unit {0}
 
 -- both are done, have as many rows (below 2 ^ 64), or are refused in the same way
 abbrev pub SayTheSame : Reply → Reply → Type 0
@@ -163,7 +163,7 @@ SayTheSame replies.Done replies.Done = Unit {0}
 SayTheSame (replies.Rows out) (replies.Rows other) =
     length out.rows < 2 ^ 64 → length other.rows < 2 ^ 64 → length out.rows ≡ length other.rows
 SayTheSame (replies.Refused refusal) (replies.Refused other) =
-    HasSmallPlace refusal → HasSmallPlace other → refusal ≡ other
+    HasSmallOffset refusal → HasSmallOffset other → refusal ≡ other
 SayTheSame reply other = ⊥
 
 -- what is announced tells of which kind a reply is, and its refusal

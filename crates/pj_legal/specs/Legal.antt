@@ -2,13 +2,13 @@
 use Rattle.std.specs.Prelude.{ℕ, ◌<◌, ◌==◌, List, length, map, if◌then◌else◌}
 use Rattle.std.specs.Option.{option_and_then, unwrap_or}
 use Rattle.std.specs.List.{AllByRecursion, find}
-use Rattle.pj_parse.specs.declared.types.Script.{Script}
+use Rattle.pj_script.specs.declared.types.Script.{Script}
 use Rattle.pj_journal.specs.declared.entry.Actor.{Actor}
 use Rattle.pj_journal.specs.declared.entry.Actor.TheVariants.{Session, Worker}
 use Rattle.pj_journal.specs.declared.entry.Entry.{Entry}
 use Rattle.pj_journal.specs.History.{IsRegular}
 use Rattle.pj_journal.specs.Moves.{Move, moves, has_moved}
-use Rattle.pj_legal.specs.Statements.{Said, statements, said_by, Shown, shown_to}
+use Rattle.pj_legal.specs.Statements.{Request, statements, requests_by, Shown, shown_to}
 use Rattle.pj_legal.specs.Shares.{SessionShare, WorkerShare, NeverFall, Rise}
 
 -- the actor is one of so many sessions, or a worker
@@ -23,24 +23,24 @@ pub record IsLegal (script : Script) (h : List Entry) (replies : List Shown) : T
   pub heard : AllByRecursion (λ shown. shown.session < length script.names) replies
   pub sessions :
       (session : ℕ) → session < length script.names
-      → SessionShare session (said_by session (statements script)) h (shown_to session replies)
+      → SessionShare session (requests_by session (statements script)) h (shown_to session replies)
   pub workers : (worker : ℕ) → WorkerShare worker h
 
 -- the line that shows the reply to the statement of a line, and that line itself where none does
-abbrev pub end_of : List Said → ℕ → ℕ
-end_of saids line =
-    unwrap_or (option_and_then (λ said. said.shown) (find (λ said. said.line == line) saids)) line
+abbrev pub end_of : List Request → ℕ → ℕ
+end_of requests line =
+    unwrap_or (option_and_then (λ request. request.shown) (find (λ request. request.line == line) requests)) line
 
 -- the line to which a move belongs: a statement's first move to its own, and a further one to that which ends
 -- the statement
-abbrev pub belongs_to : List Said → Move → ℕ
-belongs_to saids move =
-    if has_moved move.entry.actor move.entry.line move.place then end_of saids move.entry.line
+abbrev pub belongs_to : List Request → Move → ℕ
+belongs_to requests move =
+    if has_moved move.entry.actor move.entry.line move.place then end_of requests move.entry.line
     else move.entry.line
 
 -- the lines to which the moves of a history belong
-abbrev pub lines_run : List Said → List Entry → List ℕ
-lines_run saids h = map (belongs_to saids) (moves h)
+abbrev pub lines_run : List Request → List Entry → List ℕ
+lines_run requests h = map (belongs_to requests) (moves h)
 
 -- the actor is no worker
 abbrev pub IsSession : Actor → Type 0

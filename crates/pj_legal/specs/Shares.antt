@@ -8,7 +8,7 @@ use Rattle.pj_journal.specs.declared.entry.What.TheVariants as whats
 use Rattle.pj_journal.specs.declared.entry.Entry.{Entry}
 use Rattle.pj_journal.specs.Moves.{Move, moves_by, for_line}
 use Rattle.pj_legal.specs.declared.reply.Reply.{Reply}
-use Rattle.pj_legal.specs.Statements.{Said, Shown}
+use Rattle.pj_legal.specs.Statements.{Request, Shown}
 use Rattle.pj_legal.specs.Forms.{Course, Form}
 
 -- the lines never fall, from this one on
@@ -33,20 +33,20 @@ Takes (Some line) this others (shown ∷ more) = (shown.line ≡ line) × this (
 
 -- each statement went so, by those of the moves that are for its line and by its reply; and there are no other
 -- replies
-abbrev pub Went : (Said → Course → Type 0) → List Move → List Said → List Shown → Type 0
+abbrev pub Went : (Request → Course → Type 0) → List Move → List Request → List Shown → Type 0
 Went so mine [] replies = replies ≡ []
-Went so mine (said ∷ saids) replies =
-    Takes said.shown (λ reply. so said (record { moves = for_line said.line mine; reply = reply }))
-    (Went so mine saids) replies
+Went so mine (request ∷ requests) replies =
+    Takes request.shown (λ reply. so request (record { moves = for_line request.line mine; reply = reply }))
+    (Went so mine requests) replies
 
 -- the share of a session, whose statements and replies these are
-pub record SessionShare (session : ℕ) (saids : List Said) (h : List Entry) (replies : List Shown)
+pub record SessionShare (session : ℕ) (requests : List Request) (h : List Entry) (replies : List Shown)
     : Type 0 where
   pub owned :
-      AllByRecursion (λ move. Contains (map (λ said. said.line) saids) move.entry.line)
+      AllByRecursion (λ move. Contains (map (λ request. request.line) requests) move.entry.line)
       (moves_by (Session session) h)
   pub order : NeverFall 0 (lines_of (moves_by (Session session) h))
-  pub answered : Went Form (moves_by (Session session) h) saids replies
+  pub answered : Went Form (moves_by (Session session) h) requests replies
 
 -- what a worker's task may add to a place: none of the entries that are built
 abbrev pub IsTask : List Entry → What → Type 0

@@ -20,7 +20,7 @@ use Rattle.pj_legal.specs.declared.reply.Reply.{Reply}
 use Rattle.pj_legal.specs.declared.reply.Reply.TheVariants as replies
 use Rattle.pj_legal.specs.Statements.{Shown}
 
--- a value in a line of output
+-- a value as it is written
 abbrev pub value_text : Value → List ℕ
 value_text (values.Num n) = decimal n
 value_text (values.Text text) = escaped text
@@ -50,23 +50,23 @@ refusal_text refusals.NotAnAggregate = codes "NOT_AN_AGGREGATE"
 refusal_text refusals.NotBuilt = codes "NOT_BUILT"
 refusal_text refusals.NoMemory = codes "NO_MEMORY"
 
--- what the line of a reply says
+-- what the first text line of a reply announces
 abbrev pub announced : Reply → List ℕ
 announced replies.Done = codes "ok"
 announced (replies.Rows out) = codes "rows " ++ decimal (length out.rows)
 announced (replies.Refused refusal) = refusal_text refusal
 
--- the lines that follow it
+-- the text lines that follow it
 abbrev pub following : Reply → List (List ℕ)
 following replies.Done = []
 following (replies.Rows out) = map row_text out.rows
 following (replies.Refused refusal) = []
 
--- a line, with its line feed
+-- a text line, with its line feed
 abbrev pub as_line : List ℕ → List ℕ
 as_line text = text ++ 10 ∷ []
 
--- a reply: the script's line, the session's name, and what is said, then the lines that this announces
+-- a reply: the script's line, the session's name, and what it announces, then the text lines that follow
 unfoldable pub reply_text : ℕ → List ℕ → Reply → List ℕ
 reply_text line name reply =
     as_line (decimal line ++ (32 ∷ (name ++ (32 ∷ announced reply)))) ++ flat_map as_line (following reply)
@@ -97,7 +97,7 @@ what_text tables (whats.Begun table) = codes "begun " ++ name_at tables table
 what_text tables (whats.Inserted table block rows) =
     codes "inserted " ++ (name_at tables table ++ (32 ∷ (decimal block ++ (32 ∷ decimal (length rows.rows)))))
 
--- the line of an entry: its number, its actor, its line, and what it did
+-- the text line of an entry: its number, its actor, its line, and what it did
 unfoldable pub entry_text : List (List ℕ) → ℕ → List (List ℕ) → Entry → List ℕ
 entry_text sessions number tables entry =
     as_line (decimal number ++
@@ -105,7 +105,7 @@ entry_text sessions number tables entry =
     ∷ (actor_text sessions entry.actor ++
     (32 ∷ (decimal entry.line ++ (32 ∷ what_text tables entry.what))))))
 
--- the lines of entries, `place` being the history before the first
+-- the text lines of entries, `place` being the history before the first
 abbrev pub entries_text : List (List ℕ) → List Entry → List Entry → List ℕ
 entries_text sessions place [] = []
 entries_text sessions place (entry ∷ more) =

@@ -5,12 +5,12 @@ ghost use Rattle.pj_legal.specs.Texts.{actor_text, what_text, name_at};
 
 use crate::bytes::{put, put_number};
 use pj_journal::{Actor, Entry, Journal, What};
-use pj_parse::types::Script;
+use pj_script::types::Script;
 use pj_value::{NoMemory, Text};
 use std::alloc::Global;
 
 /// The text of the journal's history, with the names of the script's sessions: how many entries there are,
-/// and a line for each. An entry names its table by the catalog of its own place. Takes time and memory
+/// and a text line for each. An entry names its table by the catalog of its own place. Takes time and memory
 /// linear in the history.
 pub fn history_text(alloc: Global, script: &Script, journal: &Journal) -> Result<Text, NoMemory>
     ensures { IfOk result (λ text. text ≡ text_of_history script.now.names journal.now.entries) }

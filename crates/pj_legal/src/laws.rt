@@ -7,6 +7,7 @@ ghost use Rattle.pj_legal.specs.Laws.{NoBoundBodyIsRefused, OneBodyRefusal};
 ghost use Rattle.pj_legal.specs.Laws.{HistoryRefusesNoBody};
 ghost use Rattle.pj_legal.specs.Laws.{TextsTellNumbers, LegalRepliesArePlain};
 ghost use Rattle.pj_legal.specs.Laws.{RepliesAreToldApart, AnnouncementsAreToldApart};
+ghost use Rattle.pj_legal.specs.FixedReplies.{TextFixesReply, TextFixesReplies};
 
 /// What one thread leaves that runs a script's statements in their order is a legal history.
 pub fn runs_are_legal()
@@ -74,7 +75,7 @@ pub fn no_bound_body_is_refused()
     ensures { NoBoundBodyIsRefused }
 {}
 
-/// A body is refused in one way at most, with one cause and at one place.
+/// A body is refused in one way at most, with one cause and at one offset.
 pub fn one_body_refusal()
     ensures { OneBodyRefusal }
 {}
@@ -100,7 +101,19 @@ pub fn replies_are_told_apart()
     ensures { RepliesAreToldApart }
 {}
 
-/// What the line of a reply says tells of which kind it is, and a refusal with its name or place.
+/// What a reply announces tells of which kind it is, and a refusal with its name or offset.
 pub fn announcements_are_told_apart()
     ensures { AnnouncementsAreToldApart }
+{}
+
+/// A reader of replies who knows the kinds of the columns that a reply may have reads the reply itself from a
+/// text that begins with it: its rows value by value, or its refusal, and where the text behind it begins.
+pub fn text_fixes_reply()
+    ensures { TextFixesReply }
+{}
+
+/// Two lists of replies that are both legal for one script and one history, and have one text, are equal: the
+/// kinds of the columns come from the statements.
+pub fn text_fixes_replies()
+    ensures { TextFixesReplies }
 {}

@@ -7,7 +7,8 @@ ghost use Rattle.pj_legal.specs.Texts.{value_text, row_text, refusal_text, annou
 ghost use Rattle.pj_legal.specs.Texts.{as_line, reply_text as text_of_reply};
 
 use crate::bytes::{put, put_number};
-use crate::types::{LimitName, Refusal};
+use itoa::write_digits;
+use pj_bind::types::{LimitName, Refusal};
 use pj_value::{Cell, NoMemory, Rows, Text, escape};
 use std::alloc::Global;
 
@@ -22,8 +23,8 @@ pub enum Reply {
     Refused(Refusal),
 }
 
-/// The text of a reply that this line shows to the session of this name: one line, and then the
-/// lines that it announces. Takes time and memory linear in the text.
+/// The text of a reply that this line shows to the session of this name: one text line, and then those
+/// that it announces. Takes time and memory linear in the text.
 #[tactic(auto, unfolding(crate::specs::Texts::reply_text))]
 pub fn reply_text(alloc: Global, line: u32, name: &Text, reply: &Reply) -> Result<Text, NoMemory>
     ensures { IfOk result (λ text. text ≡ text_of_reply line name.now reply.now) }
@@ -100,32 +101,50 @@ fn put_rows(out: &mut Vec<u8>, rows: &Rows) -> Result<(), NoMemory>
 {
     'rows: for row in 0..rows.len() {
         put_row(out, rows, row)?;
-        out.push(b'\n')?;
     }
     Ok(())
 }
 
+/// Puts a row, each value with the byte that ends it: a tab, or a line feed behind the last.
 fn put_row(out: &mut Vec<u8>, rows: &Rows, row: usize) -> Result<(), NoMemory>
     requires { row < length rows.now.rows }
-    ensures { OnOk result (out.new.items ≡ out.old.items ++ row_text (slice_index_or rows.now.rows row [])) }
+    ensures { OnOk result
+        (out.new.items ≡ out.old.items ++ as_line (row_text (slice_index_or rows.now.rows row []))) }
 {
     let columns = rows.kinds().len();
     if columns == 0 {
+        out.push(b'\n')?;
         return Ok(());
     }
-    put_cell(out, rows.cell(row, 0))?;
-    'columns: for column in 1..columns {
-        out.push(b'\t')?;
-        put_cell(out, rows.cell(row, column))?;
+    let last = columns - 1;
+    'columns: for column in 0..last {
+        put_cell(out, rows.cell(row, column), b'\t')?;
     }
+    put_cell(out, rows.cell(row, last), b'\n')?;
     Ok(())
 }
 
-fn put_cell(out: &mut Vec<u8>, cell: Cell<'_>) -> Result<(), NoMemory>
-    ensures { OnOk result (out.new.items ≡ out.old.items ++ value_text (value_of cell.entry)) }
+/// Puts a value, and the byte that ends it.
+fn put_cell(out: &mut Vec<u8>, cell: Cell<'_>, end: u8) -> Result<(), NoMemory>
+    ensures { OnOk result (out.new.items ≡ out.old.items ++ (value_text (value_of cell.entry) ++ end ∷ [])) }
 {
     match cell {
-        Cell::Num(n) => put_number(out, n),
-        Cell::Text(text) => escape(text.as_slice(), out),
+        Cell::Num(n) => put_ended(out, n, end),
+        Cell::Text(text) => {
+            escape(text.as_slice(), out)?;
+            out.push(end)?;
+            Ok(())
+        }
     }
+}
+
+/// Puts a number in decimal, and the byte that ends it, at once.
+fn put_ended(out: &mut Vec<u8>, n: u64, end: u8) -> Result<(), NoMemory>
+    ensures { OnOk result (out.new.items ≡ out.old.items ++ (decimal n ++ end ∷ [])) }
+{
+    // The digits end before the last byte.
+    let mut digits = [end; 21];
+    let start = write_digits(n, &mut digits, 20);
+    out.extend_from_slice(&digits[start..])?;
+    Ok(())
 }

@@ -1,19 +1,19 @@
--- A body has one list of tokens, or it has one place where it breaks.
+-- A body has one list of tokens, or it has one offset where it breaks.
 use Rattle.std.proofs.Common.{◌≡◌, ℕ, zero, suc, ◌+◌, ◌-◌, ◌<◌, ◌⊎◌, inl, inr, List, [], ◌∷◌, ◌++◌}
 use Rattle.std.proofs.Common.{Option, Some, None, Ok, Err, length, refl, sym, ap, subst, ◌∙◌, arith}
 use Rattle.std.proofs.lemmas.List.{append-nil, length-append, drop_at}
 use Rattle.std.proofs.lemmas.Option.{none-some}
 use Rattle.pj_lex.specs.declared.token.Token.{Token}
 use Rattle.pj_lex.specs.declared.token.TokenKind.{TokenKind}
-use Rattle.pj_lex.specs.Bytes.{is_blank, IsBlank}
-use Rattle.pj_lex.specs.Tokens.{StopsAt, IsFirst, Lead, AreTokens, BreaksAt}
+use Rattle.pj_lex.specs.Bytes.{is_blank, IsBlank, after_blanks}
+use Rattle.pj_lex.specs.Tokens.{StopsAt, StandsFirst, IsFirst, Lead, AreTokens, BreaksAt}
 use Rattle.pj_lex.specs.Laws.{OneList, TokensOrBreak, NoTokensWithABreak, OneBreak}
-use Rattle.pj_lex.specs.TokenReading.{Found, Read, after_blanks, token_at}
+use Rattle.pj_lex.specs.TokenReading.{Found, Read, token_at}
 use Rattle.pj_lex.specs.BodyReading.{BreaksFrom}
 use Rattle.pj_lex.proofs.BodyTokens.{all_blank, first_is_read, break_is_read, first-shorter, Lead-breaks}
 use Rattle.pj_lex.proofs.TokenBytes.{run_is}
-use Rattle.pj_lex.proofs.TokenFront.{found, token_at-only, token_at-bad, BeginsToken}
-use Rattle.pj_lex.proofs.TokenFront.{begins_token, begins_bad}
+use Rattle.pj_lex.proofs.TokenPrefix.{found, token_at-only, token_at-bad, BeginsToken}
+use Rattle.pj_lex.proofs.TokenPrefix.{begins_token, begins_bad}
 
 -- ---- the bytes behind the blanks
 
@@ -47,28 +47,32 @@ blank-only bytes all = after_blanks-only bytes bytes [] (sym (append-nil bytes))
 
 -- ---- a token that stands first
 
-module _ (here : ℕ) (bytes more : List ℕ) (token : Token) (first : IsFirst here bytes token more) where
-  -- its bytes are no blanks
-  first-begins : BeginsToken (first.text ++ more)
-  first-begins = begins-append first.text more (begins_token token.kind first.text first.spelled)
+-- what stands first is behind the blanks at the start
+pub stands-behind : (bytes own more : List ℕ) (kind : TokenKind) → StandsFirst bytes kind own more
+    → after_blanks bytes ≡ own ++ more
+stands-behind bytes own more kind s =
+    behind_blanks bytes s.blanks (own ++ more) s.whole s.blank
+    (begins-append own more (begins_token kind own s.spelled))
 
-  -- it stands behind the blanks in front
+module _ (here : ℕ) (bytes more : List ℕ) (token : Token) (first : IsFirst here bytes token more) where
   first-behind : after_blanks bytes ≡ first.text ++ more
-  first-behind = behind_blanks bytes first.blanks (first.text ++ more) first.whole first.blank first-begins
+  first-behind = stands-behind bytes first.text more token.kind first.stands
 
   -- it is what is read there
   first-reads : token_at (after_blanks bytes) ≡ found token.kind more
-  first-reads = ap token_at first-behind ∙ token_at-only token.kind first.text more first.spelled first.ended
+  first-reads =
+      ap token_at first-behind
+      ∙ token_at-only token.kind first.text more first.stands.spelled first.stands.ended
 
-  -- its place is where the blanks in front end
+  -- its offset is where the blanks at the start end
   first-at : token.at + length (after_blanks bytes) ≡ here + length bytes
   first-at =
       omega (
         arith,
         first.at,
         ap length first-behind,
-        ap length first.whole,
-        length-append first.blanks (first.text ++ more),
+        ap length first.stands.whole,
+        length-append first.stands.blanks (first.text ++ more),
       )
 
   -- its end is where the bytes behind it begin
@@ -113,24 +117,24 @@ first_one here bytes more more' a b first other =
 
 -- ---- what is behind the tokens
 
--- blanks alone, or a break at this place
+-- blanks alone, or a break at this offset
 abbrev IsEnd : ℕ → List ℕ → Option ℕ → Type 0
 IsEnd there rest None = IsBlank rest
 IsEnd there rest (Some at) = BreaksFrom there rest at
 
--- the bytes from the place of a break on begin with no blank
+-- the bytes from a break on begin with no blank
 breaks-begins : (here : ℕ) (bytes : List ℕ) (at : ℕ) (breaks : BreaksFrom here bytes at)
     → BeginsToken breaks.rest
 breaks-begins here bytes at breaks = begins_bad breaks.rest breaks.offset breaks.bad
 
--- these bytes are behind the blanks in front
+-- these bytes are behind the blanks at the start
 breaks-behind : (here : ℕ) (bytes : List ℕ) (at : ℕ) (breaks : BreaksFrom here bytes at)
     → after_blanks bytes ≡ breaks.rest
 breaks-behind here bytes at breaks =
     behind_blanks bytes breaks.blanks breaks.rest breaks.whole breaks.blank
     (breaks-begins here bytes at breaks)
 
--- the bytes from the place of the break on are read as bad
+-- the bytes from the break on are read as bad
 breaks-reads : (here : ℕ) (bytes : List ℕ) (at : ℕ) → BreaksFrom here bytes at
     → (stuck : List ℕ) × (token_at (after_blanks bytes) ≡ Err stuck)
     × (at + length stuck ≡ here + length bytes)
@@ -138,7 +142,7 @@ breaks-reads here bytes at breaks =
     let bad = token_at-bad breaks.rest breaks.offset breaks.bad in (
       bad.0,
       ap token_at (breaks-behind here bytes at breaks) ∙ bad.1,
-      omega (arith, bad.2, breaks.place, ap length breaks.whole, length-append breaks.blanks breaks.rest),
+      omega (arith, bad.2, breaks.position, ap length breaks.whole, length-append breaks.blanks breaks.rest),
     )
 
 -- blanks alone have nothing with which a token or a break begins
@@ -150,13 +154,13 @@ end_no_first : (here : ℕ) (bytes more : List ℕ) (end : Option ℕ) (token : 
     → IsFirst here bytes token more → ⊥
 end_no_first here bytes more None token blank first =
     no_begin bytes (first.text ++ more) blank (first-behind here bytes more token first)
-    (first-begins here bytes more token first)
+    (begins-append first.text more (begins_token token.kind first.text first.stands.spelled))
 end_no_first here bytes more (Some at) token breaks first =
     let bad = breaks-reads here bytes at breaks in
     let both : found token.kind more ≡ Err bad.0 = sym (first-reads here bytes more token first) ∙ bad.1 in
     absurd cc
 
--- the bytes break at one place
+-- the bytes break at one offset
 break_one : (here : ℕ) (bytes : List ℕ) (a b : ℕ) → BreaksFrom here bytes a → BreaksFrom here bytes b → a ≡ b
 break_one here bytes a b breaks other =
     let bad = breaks-reads here bytes a breaks in
@@ -194,7 +198,7 @@ Begins here bytes =
 begins-read : (here : ℕ) (bytes : List ℕ) (read : Read) → 0 < length (after_blanks bytes)
     → token_at (after_blanks bytes) ≡ read → Begins here bytes
 begins-read here bytes (Ok (kind, behind)) some e =
-    let place : here + length bytes - length bytes ≡ here = omega arith in
+    let position : here + length bytes - length bytes ≡ here = omega arith in
     let first = first_is_read (here + length bytes) bytes (omega arith) kind behind some e in
     inr (
       record {
@@ -203,12 +207,12 @@ begins-read here bytes (Ok (kind, behind)) some e =
         end = here + length bytes - length behind;
       },
       behind,
-      rw place at first,
+      rw position at first,
     )
 begins-read here bytes (Err stuck) some e =
-    let place : here + length bytes - length bytes ≡ here = omega arith in
+    let position : here + length bytes - length bytes ≡ here = omega arith in
     let breaks = break_is_read (here + length bytes) bytes (omega arith) stuck some e in
-    inl (Some (here + length bytes - length stuck), rw place at breaks)
+    inl (Some (here + length bytes - length stuck), rw position at breaks)
 
 -- and by the bytes behind the blanks
 begins-by : (here : ℕ) (bytes behind : List ℕ) → after_blanks bytes ≡ behind → Begins here bytes
@@ -233,8 +237,8 @@ some_has (suc n) here bytes less =
 
 -- behind no tokens the end is here
 has-end : (here : ℕ) (bytes : List ℕ) (end : Option ℕ) → Has here bytes [] end → IsEnd here bytes end
-has-end here bytes end (there, rest, (place, same), is) =
-    subst (λ (n : ℕ). IsEnd n bytes end) place (subst (λ (r : List ℕ). IsEnd there r end) same is)
+has-end here bytes end (there, rest, (position, same), is) =
+    subst (λ (n : ℕ). IsEnd n bytes end) position (subst (λ (r : List ℕ). IsEnd there r end) same is)
 
 -- one list of tokens, and one end
 one : (here : ℕ) (bytes : List ℕ) (xs ys : List Token) (a b : Option ℕ) → Has here bytes xs a
@@ -261,7 +265,7 @@ has-break : (body : List ℕ) (at : ℕ) (breaks : BreaksAt body at) → Has 0 b
 has-break body at breaks = (
   breaks.there,
   breaks.rest,
-  breaks.front,
+  breaks.prefix,
   record {
     blanks = breaks.blanks;
     rest = breaks.bytes;
@@ -269,7 +273,7 @@ has-break body at breaks = (
     blank = breaks.blank;
     offset = breaks.offset;
     bad = breaks.bad;
-    place = breaks.place;
+    position = breaks.position;
   },
 )
 
@@ -293,7 +297,7 @@ no_tokens_with_a_break body tokens at are breaks =
     none-some at (one 0 body tokens breaks.tokens None (Some at) (has-tokens body tokens are)
     (has-break body at breaks)).1
 
--- a body breaks at one place
+-- a body breaks at one offset
 pub one_break : OneBreak
 one_break body a b breaks other =
     let same =

@@ -1,4 +1,4 @@
--- The tokens of a body, one behind the other, and the place where they break.
+-- The tokens of a body, one behind the other, and the offset where they break.
 use Rattle.std.proofs.Common.{◌≡◌, ℕ, false, eqb, ◌+◌, ◌-◌, ◌<◌, ◌≤◌, List, [], ◌∷◌, ◌++◌}
 use Rattle.std.proofs.Common.{Ok, Err, length, take, refl, sym, ap, subst, ◌∙◌, arith}
 use Rattle.std.specs.List.{prefix_len}
@@ -6,25 +6,25 @@ use Rattle.std.proofs.lemmas.Bool.Decides.{nat_tests}
 use Rattle.std.proofs.lemmas.List.{append-nil, length-append, take-append-drop}
 use Rattle.pj_lex.specs.declared.token.Token.{Token}
 use Rattle.pj_lex.specs.declared.token.TokenKind.{TokenKind}
-use Rattle.pj_lex.specs.Bytes.{is_blank, IsBlank}
+use Rattle.pj_lex.specs.Bytes.{is_blank, IsBlank, after_blanks}
 use Rattle.pj_lex.specs.Tokens.{StopsAt, IsFirst, Lead, BreaksAt}
-use Rattle.pj_lex.specs.TokenReading.{after_blanks, token_at}
+use Rattle.pj_lex.specs.TokenReading.{token_at}
 use Rattle.pj_lex.specs.BodyReading.{BreaksFrom}
 use Rattle.pj_lex.proofs.TokenBytes.{run_passes, run_stops}
-use Rattle.pj_lex.proofs.TokenFront.{IsFront, IsStuck, IsRead, token_is_read, BeginsToken, begins_token}
+use Rattle.pj_lex.proofs.TokenPrefix.{IsPrefix, IsStuck, IsRead, token_is_read, BeginsToken, begins_token}
 
 -- ---- blanks
 
--- the blanks in front
+-- the blanks at the start
 abbrev pub blanks_of : List ℕ → List ℕ
 blanks_of bytes = take (prefix_len is_blank bytes) bytes
 
--- the blanks in front, and what is behind them
+-- the blanks at the start, and what is behind them
 pub blanks-whole : (bytes : List ℕ) → bytes ≡ blanks_of bytes ++ after_blanks bytes
 unfolding after_blanks
 blanks-whole bytes = sym (take-append-drop (prefix_len is_blank bytes) bytes)
 
--- no blank is behind the blanks in front
+-- no blank is behind the blanks at the start
 blanks-stop : (bytes : List ℕ) → StopsAt is_blank (after_blanks bytes)
 unfolding after_blanks
 blanks-stop bytes = run_stops is_blank bytes
@@ -54,9 +54,9 @@ is_read [] some stops = absurd (omega arith)
 is_read (b ∷ bs) some stops = token_is_read b bs stops
 
 -- a token that is read behind the blanks stands there
-pub front_is_read : (bytes behind : List ℕ) (kind : TokenKind) → 0 < length (after_blanks bytes)
-    → token_at (after_blanks bytes) ≡ Ok (kind, behind) → IsFront (after_blanks bytes) kind behind
-front_is_read bytes behind kind some e =
+pub prefix_is_read : (bytes behind : List ℕ) (kind : TokenKind) → 0 < length (after_blanks bytes)
+    → token_at (after_blanks bytes) ≡ Ok (kind, behind) → IsPrefix (after_blanks bytes) kind behind
+prefix_is_read bytes behind kind some e =
     subst (IsRead (after_blanks bytes)) e (is_read (after_blanks bytes) some (blanks-stop bytes))
 
 -- what is read as bad behind the blanks is bad
@@ -65,12 +65,12 @@ pub bad_is_read : (bytes stuck : List ℕ) → 0 < length (after_blanks bytes)
 bad_is_read bytes stuck some e =
     subst (IsRead (after_blanks bytes)) e (is_read (after_blanks bytes) some (blanks-stop bytes))
 
--- a token in front and the bytes behind it are as long as the whole
-pub front-length : (bytes behind : List ℕ) (kind : TokenKind) (front : IsFront bytes kind behind)
-    → length bytes ≡ length front.text + length behind
-front-length bytes behind kind front = ap length front.whole ∙ length-append front.text behind
+-- a token at the start and the bytes behind it are as long as the whole
+pub prefix-length : (bytes behind : List ℕ) (kind : TokenKind) (prefix : IsPrefix bytes kind behind)
+    → length bytes ≡ length prefix.text + length behind
+prefix-length bytes behind kind prefix = ap length prefix.whole ∙ length-append prefix.text behind
 
--- places by how many bytes are left of a body of this size
+-- offsets by how many bytes are left of a body of this size
 module _ (size : ℕ) (bytes : List ℕ) (within : length bytes ≤ size) where
   -- a token that is read is first
   pub first_is_read : (kind : TokenKind) (behind : List ℕ) → 0 < length (after_blanks bytes)
@@ -78,16 +78,18 @@ module _ (size : ℕ) (bytes : List ℕ) (within : length bytes ≤ size) where
       → IsFirst (size - length bytes) bytes
       (record { kind = kind; at = size - length (after_blanks bytes); end = size - length behind }) behind
   first_is_read kind behind some e =
-      let front = front_is_read bytes behind kind some e in
+      let prefix = prefix_is_read bytes behind kind some e in
       record {
-        blanks = blanks_of bytes;
-        text = front.text;
-        whole = blanks-whole bytes ∙ ap (λ (x : List ℕ). blanks_of bytes ++ x) front.whole;
-        blank = run_passes is_blank bytes;
+        text = prefix.text;
+        stands = record {
+          blanks = blanks_of bytes;
+          whole = blanks-whole bytes ∙ ap (λ (x : List ℕ). blanks_of bytes ++ x) prefix.whole;
+          blank = run_passes is_blank bytes;
+          spelled = prefix.spelled;
+          ended = prefix.ended;
+        };
         at = omega (arith, blanks-length bytes);
-        end = omega (arith, blanks-length bytes, front-length (after_blanks bytes) behind kind front);
-        spelled = front.spelled;
-        ended = front.ended;
+        end = omega (arith, blanks-length bytes, prefix-length (after_blanks bytes) behind kind prefix);
       }
 
   -- the body breaks where what is read is bad
@@ -103,31 +105,31 @@ module _ (size : ℕ) (bytes : List ℕ) (within : length bytes ≤ size) where
         blank = run_passes is_blank bytes;
         offset = bad.offset;
         bad = bad.bad;
-        place = omega (arith, blanks-length bytes, bad.place);
+        position = omega (arith, blanks-length bytes, bad.position);
       }
 
   -- the bytes behind a token that is read fit the body
   pub behind-within : (kind : TokenKind) (behind : List ℕ) → 0 < length (after_blanks bytes)
       → token_at (after_blanks bytes) ≡ Ok (kind, behind) → length behind ≤ size
   behind-within kind behind some e =
-      let front = front_is_read bytes behind kind some e in
-      omega (arith, blanks-length bytes, front-length (after_blanks bytes) behind kind front)
+      let prefix = prefix_is_read bytes behind kind some e in
+      omega (arith, blanks-length bytes, prefix-length (after_blanks bytes) behind kind prefix)
 
-  -- the bytes from a bad place on fit the body
+  -- the bytes from a bad token on fit the body
   pub stuck-within : (stuck : List ℕ) → 0 < length (after_blanks bytes)
       → token_at (after_blanks bytes) ≡ Err stuck → length stuck ≤ size
   stuck-within stuck some e =
       let bad = bad_is_read bytes stuck some e in
-      omega (arith, blanks-length bytes, bad.place)
+      omega (arith, blanks-length bytes, bad.position)
 
 -- ---- one token more
 
 -- blanks, token and the bytes behind it are as long as the whole
 first-length : (here : ℕ) (bytes more : List ℕ) (token : Token) (first : IsFirst here bytes token more)
-    → length bytes ≡ length first.blanks + (length first.text + length more)
+    → length bytes ≡ length first.stands.blanks + (length first.text + length more)
 first-length here bytes more token first =
-    ap length first.whole ∙ length-append first.blanks (first.text ++ more)
-    ∙ ap (λ (n : ℕ). length first.blanks + n) (length-append first.text more)
+    ap length first.stands.whole ∙ length-append first.stands.blanks (first.text ++ more)
+    ∙ ap (λ (n : ℕ). length first.stands.blanks + n) (length-append first.text more)
 
 -- a token has bytes
 pub some_bytes : (text : List ℕ) → BeginsToken text → 0 < length text
@@ -141,7 +143,7 @@ first-shorter here bytes more token first =
     omega (
       arith,
       first-length here bytes more token first,
-      some_bytes first.text (begins_token token.kind first.text first.spelled),
+      some_bytes first.text (begins_token token.kind first.text first.stands.spelled),
     )
 
 -- a token ends where the bytes behind it begin
@@ -154,16 +156,16 @@ first-end size bytes more token within first =
 pub Lead-push : (tokens : List Token) (here there : ℕ) (bytes rest more : List ℕ) (token : Token)
     → Lead here bytes tokens there rest → IsFirst there rest token more
     → Lead here bytes (tokens ++ token ∷ []) token.end more
-Lead-push [] here there bytes rest more token (place, same) first = (
+Lead-push [] here there bytes rest more token (position, same) first = (
   more,
   subst (λ (b : List ℕ). IsFirst here b token more) same
-      (subst (λ (n : ℕ). IsFirst n rest token more) place first),
+      (subst (λ (n : ℕ). IsFirst n rest token more) position first),
   (refl, refl),
 )
 Lead-push (t ∷ ts) here there bytes rest more token (behind, one, others) first =
     (behind, one, Lead-push ts t.end there behind rest more token others first)
 
--- places by how many bytes are left of the body
+-- offsets by how many bytes are left of the body
 pub Lead-next : (body rest more : List ℕ) (tokens : List Token) (token : Token) → length rest ≤ length body
     → Lead 0 body tokens (length body - length rest) rest
     → IsFirst (length body - length rest) rest token more
@@ -181,12 +183,12 @@ Lead-breaks body rest tokens there at lead breaks =
       tokens = tokens;
       there = there;
       rest = rest;
-      front = lead;
+      prefix = lead;
       blanks = breaks.blanks;
       bytes = breaks.rest;
       whole = breaks.whole;
       blank = breaks.blank;
       offset = breaks.offset;
       bad = breaks.bad;
-      place = breaks.place;
+      position = breaks.position;
     }

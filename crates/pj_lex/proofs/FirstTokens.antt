@@ -1,4 +1,4 @@
--- The first token of some bytes: what is read in front stands first, and what stands first is read.
+-- The first token of some bytes: what is read at the start stands first, and what stands first is read.
 use Rattle.std.proofs.Common.{◌≡◌, ℕ, Bool, ◌^◌, ◌-◌, ◌<◌, ◌≤◌, true, false, cond, eqb, ltb, List, [], ◌∷◌}
 use Rattle.std.proofs.Common.{◌++◌, length, Option, Some, None, Ok, Err, refl, sym, ap, ◌∙◌, inl, inr}
 use Rattle.std.proofs.Common.{get_or, take, drop, arith}
@@ -16,21 +16,20 @@ use Rattle.pj_lex.specs.declared.token.Symbol.{Symbol}
 use Rattle.pj_lex.specs.declared.token.Symbol.TheVariants as symbols
 use Rattle.pj_lex.specs.declared.token.TokenKind.{TokenKind}
 use Rattle.pj_lex.specs.declared.token.TokenKind.TheVariants as kinds
-use Rattle.pj_lex.specs.Bytes.{is_blank, is_digit, is_word_byte, AllAre}
+use Rattle.pj_lex.specs.Bytes.{is_blank, is_digit, is_word_byte, AllAre, after_blanks}
 use Rattle.pj_lex.specs.Tokens.{spellings, IsWord, digits_value, Spells, StopsAt, Ends, StandsFirst}
 use Rattle.pj_lex.specs.FirstToken.{HasFirst, IsFound, IsBehindFirst, begins_word_first}
-use Rattle.pj_lex.specs.TokenReading.{Read, after_blanks, goes_on, symbol_at}
+use Rattle.pj_lex.specs.TokenReading.{Read, goes_on, symbol_at}
 use Rattle.pj_lex.specs.TokenReading.{Pieces, Closed, BadEscape, NoEnd}
 use Rattle.pj_lex.specs.TokenReading.{pieces_at, text_of}
 use Rattle.pj_lex.proofs.TokenBytes.{choice, run_passes, run_is, begins_is_word_byte, stops_digits}
 use Rattle.pj_lex.proofs.TokenNumbers.{small as fits}
-use Rattle.pj_lex.proofs.TokenFront.{begins_token}
-use Rattle.pj_lex.proofs.BodyLaws.{begins-append, behind_blanks}
-use Rattle.pj_lex.proofs.SymbolFront.{symbol_at-found}
+use Rattle.pj_lex.proofs.BodyLaws.{stands-behind}
+use Rattle.pj_lex.proofs.SymbolPrefix.{symbol_at-found}
 use Rattle.pj_lex.proofs.TextPieces.{AreRead, pieces_are_read, pieces_at-closed}
 use Rattle.pj_lex.proofs.BodyTokens.{blanks_of, blanks-whole}
 
--- what is read behind the blanks in front stands first
+-- what is read behind the blanks at the start stands first
 pub stands : (bytes text more : List ℕ) (kind : TokenKind) → after_blanks bytes ≡ text ++ more
     → Spells kind text → Ends kind text more → StandsFirst bytes kind text more
 stands bytes text more kind e spelled ended =
@@ -42,22 +41,15 @@ stands bytes text more kind e spelled ended =
       ended = ended;
     }
 
--- what stands first is behind the blanks in front
-stands-behind : (bytes own more : List ℕ) (kind : TokenKind) → StandsFirst bytes kind own more
-    → after_blanks bytes ≡ own ++ more
-stands-behind bytes own more kind s =
-    behind_blanks bytes s.blanks (own ++ more) s.whole s.blank
-    (begins-append own more (begins_token kind own s.spelled))
-
 -- ---- symbols
 
 -- a symbol that is read stands first
 symbol-stands : (bytes more : List ℕ) (symbol : Symbol) → symbol_at (after_blanks bytes) ≡ Some (symbol, more)
     → HasFirst (kinds.Symbol symbol) bytes more
 symbol-stands bytes more symbol e =
-    let front = symbol_at-found (after_blanks bytes) more symbol e in (
-      front.text,
-      stands bytes front.text more (kinds.Symbol symbol) front.whole front.spelled front.longest,
+    let prefix = symbol_at-found (after_blanks bytes) more symbol e in (
+      prefix.text,
+      stands bytes prefix.text more (kinds.Symbol symbol) prefix.whole prefix.spelled prefix.longest,
     )
 
 -- so does a byte that is a symbol whatever is behind it
@@ -211,8 +203,8 @@ module _ (p : ℕ → Bool) (bytes own more : List ℕ) (whole : bytes ≡ own +
   run-length : prefix_len p bytes ≡ length own
   run-length = ap (prefix_len p) whole ∙ run_is p own more all stops
 
-  pub run-front : take (prefix_len p bytes) bytes ≡ own
-  run-front =
+  pub run-prefix : take (prefix_len p bytes) bytes ≡ own
+  run-prefix =
       ap (λ (n : ℕ). take n bytes) run-length ∙ ap (take (length own)) whole
       ∙ take_at own more (length own) refl
 
@@ -221,11 +213,11 @@ module _ (p : ℕ → Bool) (bytes own more : List ℕ) (whole : bytes ≡ own +
       ap (λ (n : ℕ). drop n bytes) run-length ∙ ap (drop (length own)) whole
       ∙ drop_at own more (length own) refl
 
--- the run that the code cuts off is that in front, and what is left is behind it
-pub front_of : (p : ℕ → Bool) (bytes behind own : List ℕ) (n : ℕ) → behind ≡ after_blanks bytes
+-- the run that the code cuts off is that at the start, and what is left is behind it
+pub prefix_of : (p : ℕ → Bool) (bytes behind own : List ℕ) (n : ℕ) → behind ≡ after_blanks bytes
     → n ≡ prefix_len p behind → own ≡ take n behind
     → own ≡ take (prefix_len p (after_blanks bytes)) (after_blanks bytes)
-front_of p bytes behind own n is count cut = rw (← is) (cut ∙ ap (λ (k : ℕ). take k behind) count)
+prefix_of p bytes behind own n is count cut = rw (← is) (cut ∙ ap (λ (k : ℕ). take k behind) count)
 
 pub back_of : (p : ℕ → Bool) (bytes behind own : List ℕ) (n : ℕ) → behind ≡ after_blanks bytes
     → n ≡ prefix_len p behind → own ≡ drop n behind
@@ -237,16 +229,16 @@ goes_on-not : (bytes : List ℕ) → StopsAt is_word_byte bytes → goes_on byte
 goes_on-not [] h = refl
 goes_on-not (b ∷ bs) h = h
 
--- a number that stands first is that of the digits in front
+-- a number that stands first is that of the digits at the start
 module _ (bytes digits behind : List ℕ) (n : ℕ) (more : List ℕ) (has : HasFirst (kinds.Number n) bytes more)
-    (front : digits ≡ take (prefix_len is_digit (after_blanks bytes)) (after_blanks bytes))
+    (prefix : digits ≡ take (prefix_len is_digit (after_blanks bytes)) (after_blanks bytes))
     (back : behind ≡ drop (prefix_len is_digit (after_blanks bytes)) (after_blanks bytes)) where
   number-whole : after_blanks bytes ≡ has.0 ++ more
   number-whole = stands-behind bytes has.0 more (kinds.Number n) has.1
 
   number-digits : digits ≡ has.0
   number-digits =
-      front ∙ run-front is_digit (after_blanks bytes) has.0 more number-whole has.1.spelled.1
+      prefix ∙ run-prefix is_digit (after_blanks bytes) has.0 more number-whole has.1.spelled.1
       (stops_digits more has.1.ended)
 
   number-behind : behind ≡ more
@@ -279,13 +271,13 @@ word-begins : (word : List ℕ) → IsWord word → begins_word_first word ≡ t
 word-begins [] is = absurd is
 word-begins (b ∷ bs) is = is.0
 
--- where no word byte in front begins a word, no word stands first
+-- where no word byte at the start begins a word, no word stands first
 pub word-none : (bytes own word more : List ℕ) → StandsFirst bytes kinds.Word word more
     → own ≡ take (prefix_len is_word_byte (after_blanks bytes)) (after_blanks bytes)
     → begins_word_first own ≡ false → ⊥
-word-none bytes own word more s front none =
+word-none bytes own word more s prefix none =
     let same : own ≡ word =
-    front ∙ run-front is_word_byte (after_blanks bytes) word more
+    prefix ∙ run-prefix is_word_byte (after_blanks bytes) word more
     (stands-behind bytes word more kinds.Word s) (word-bytes word s.spelled) s.ended in
     let begins : begins_word_first own ≡ true = ap begins_word_first same ∙ word-begins word s.spelled in
     cc

@@ -1,8 +1,8 @@
 pub mod BodyLaws
 pub mod BodyTokens
 pub mod FirstTokens
-pub mod SymbolFront
+pub mod SymbolPrefix
 pub mod TextPieces
 pub mod TokenBytes
-pub mod TokenFront
+pub mod TokenPrefix
 pub mod TokenNumbers

@@ -9,7 +9,7 @@ use Rattle.std.proofs.lemmas.List.Elements.{All-contains, All-from_recursion}
 use Rattle.std.specs.List.{AllByRecursion}
 use Rattle.pj_lex.specs.Tokens.{escapes, IsPiece, ArePieces, StopsAt}
 use Rattle.pj_lex.specs.TokenReading.{escaped, Pieces, Closed, BadEscape, NoEnd}
-use Rattle.pj_lex.specs.TokenReading.{with_front, with_escape, pieces_at}
+use Rattle.pj_lex.specs.TokenReading.{with_prefix, with_escape, pieces_at}
 use Rattle.pj_lex.proofs.TokenBytes.{cases, choice}
 
 -- ---- escapes
@@ -76,9 +76,9 @@ AreRead bytes (BadEscape stuck) =
     × (stuck ≡ 92 ∷ more) × ArePieces pieces text × BeginsNoPiece (92 ∷ more)
 AreRead bytes NoEnd = (text : List ℕ) × ArePieces bytes text
 
--- with a piece more in front
+-- with a piece more before them
 AreRead-piece : (piece bytes : List ℕ) (b : ℕ) (read : Pieces) → IsPiece piece b → AreRead bytes read
-    → AreRead (piece ++ bytes) (with_front (b ∷ []) read)
+    → AreRead (piece ++ bytes) (with_prefix (b ∷ []) read)
 AreRead-piece piece bytes b (Closed text rest) is (pieces, whole, are, stops) = (
   piece ++ pieces,
   ap (λ (x : List ℕ). piece ++ x) whole ∙ sym (append_assoc piece pieces (39 ∷ rest)),
@@ -187,34 +187,34 @@ pieces_are_read (b ∷ c ∷ bs) =
 
 -- ---- what is spelled is read
 
--- nothing in front changes nothing
-with_front-nil : (read : Pieces) → with_front [] read ≡ read
-with_front-nil (Closed text rest) = refl
-with_front-nil (BadEscape stuck) = refl
-with_front-nil NoEnd = refl
+-- no bytes before them change nothing
+with_prefix-nil : (read : Pieces) → with_prefix [] read ≡ read
+with_prefix-nil (Closed text rest) = refl
+with_prefix-nil (BadEscape stuck) = refl
+with_prefix-nil NoEnd = refl
 
--- a byte in front of bytes in front
-with_front-cons : (b : ℕ) (text : List ℕ) (read : Pieces)
-    → with_front (b ∷ []) (with_front text read) ≡ with_front (b ∷ text) read
-with_front-cons b text (Closed more rest) = refl
-with_front-cons b text (BadEscape stuck) = refl
-with_front-cons b text NoEnd = refl
+-- a byte before the bytes of a prefix
+with_prefix-cons : (b : ℕ) (text : List ℕ) (read : Pieces)
+    → with_prefix (b ∷ []) (with_prefix text read) ≡ with_prefix (b ∷ text) read
+with_prefix-cons b text (Closed more rest) = refl
+with_prefix-cons b text (BadEscape stuck) = refl
+with_prefix-cons b text NoEnd = refl
 
 -- a plain byte is read as itself
 byte_piece : (b : ℕ) (rest : List ℕ) → eqb b 39 ≡ false → eqb b 92 ≡ false
-    → pieces_at (b ∷ rest) ≡ with_front (b ∷ []) (pieces_at rest)
+    → pieces_at (b ∷ rest) ≡ with_prefix (b ∷ []) (pieces_at rest)
 unfolding pieces_at
 byte_piece b [] quote backslash = rw (quote, backslash) refl
 byte_piece b (c ∷ rest) quote backslash = rw (quote, backslash) refl
 
 -- an escape is read as its byte
 escape_piece : (c b : ℕ) (rest : List ℕ) → escaped c ≡ Some b
-    → pieces_at (92 ∷ c ∷ rest) ≡ with_front (b ∷ []) (pieces_at rest)
+    → pieces_at (92 ∷ c ∷ rest) ≡ with_prefix (b ∷ []) (pieces_at rest)
 unfolding pieces_at
 escape_piece c b rest e = ap (λ (o : Option ℕ). with_escape (92 ∷ c ∷ rest) o (pieces_at rest)) e
 
 -- two quotes are read as one
-quotes_piece : (rest : List ℕ) → pieces_at (39 ∷ 39 ∷ rest) ≡ with_front (39 ∷ []) (pieces_at rest)
+quotes_piece : (rest : List ℕ) → pieces_at (39 ∷ 39 ∷ rest) ≡ with_prefix (39 ∷ []) (pieces_at rest)
 unfolding pieces_at
 quotes_piece rest = refl
 
@@ -222,30 +222,30 @@ quotes_piece rest = refl
 pub isnt : (a b : ℕ) → a ≢ b → eqb a b ≡ false
 isnt a b differs = elim (cases (eqb a b)) [ inl e ↦ absurd (differs (eqb-true a b e)) | inr e ↦ e ]
 
--- a piece in front is read as its byte
+-- a piece at the start is read as its byte
 pieces_at-piece : (piece rest : List ℕ) (b : ℕ) → IsPiece piece b
-    → pieces_at (piece ++ rest) ≡ with_front (b ∷ []) (pieces_at rest)
+    → pieces_at (piece ++ rest) ≡ with_prefix (b ∷ []) (pieces_at rest)
 pieces_at-piece piece rest b (inl (one, quote, backslash)) =
     ap (λ (p : List ℕ). pieces_at (p ++ rest)) one ∙ byte_piece b rest (isnt b 39 quote) (isnt b 92 backslash)
 pieces_at-piece piece rest b (inr is) =
     elim (escape_forms piece b is) [
       | inl (two, byte) ↦
           ap (λ (p : List ℕ). pieces_at (p ++ rest)) two ∙ quotes_piece rest
-          ∙ ap (λ (x : ℕ). with_front (x ∷ []) (pieces_at rest)) (sym byte)
+          ∙ ap (λ (x : ℕ). with_prefix (x ∷ []) (pieces_at rest)) (sym byte)
       | inr (c, two, some) ↦ ap (λ (p : List ℕ). pieces_at (p ++ rest)) two ∙ escape_piece c b rest some
     ]
 
 -- pieces are read as their text
 pub pieces_at-pieces : (text pieces rest : List ℕ) → ArePieces pieces text
-    → pieces_at (pieces ++ rest) ≡ with_front text (pieces_at rest)
+    → pieces_at (pieces ++ rest) ≡ with_prefix text (pieces_at rest)
 pieces_at-pieces [] pieces rest none =
-    ap (λ (p : List ℕ). pieces_at (p ++ rest)) none ∙ sym (with_front-nil (pieces_at rest))
+    ap (λ (p : List ℕ). pieces_at (p ++ rest)) none ∙ sym (with_prefix-nil (pieces_at rest))
 pieces_at-pieces (b ∷ text) pieces rest (piece, more, whole, is, are) =
     ap (λ (p : List ℕ). pieces_at (p ++ rest)) whole
     ∙ ap pieces_at (append_assoc piece more rest)
     ∙ pieces_at-piece piece (more ++ rest) b is
-    ∙ ap (with_front (b ∷ [])) (pieces_at-pieces text more rest are)
-    ∙ with_front-cons b text (pieces_at rest)
+    ∙ ap (with_prefix (b ∷ [])) (pieces_at-pieces text more rest are)
+    ∙ with_prefix-cons b text (pieces_at rest)
 
 -- a quote with none behind it ends the text
 closes : (rest : List ℕ) → StopsAt (λ b. eqb b 39) rest → pieces_at (39 ∷ rest) ≡ Closed [] rest
@@ -257,7 +257,7 @@ closes (c ∷ rest) stops = rw stops refl
 pub pieces_at-closed : (text pieces rest : List ℕ) → ArePieces pieces text → StopsAt (λ b. eqb b 39) rest
     → pieces_at (pieces ++ 39 ∷ rest) ≡ Closed text rest
 pieces_at-closed text pieces rest are stops =
-    pieces_at-pieces text pieces (39 ∷ rest) are ∙ ap (with_front text) (closes rest stops)
+    pieces_at-pieces text pieces (39 ∷ rest) are ∙ ap (with_prefix text) (closes rest stops)
     ∙ ap (λ (t : List ℕ). Closed t rest) (append-nil text)
 
 -- a backslash with which no piece begins is a bad escape
@@ -275,7 +275,7 @@ no_piece (c ∷ bs) none = by_escape (escaped c) refl
 pub pieces_at-bad : (text pieces more : List ℕ) → ArePieces pieces text → BeginsNoPiece (92 ∷ more)
     → pieces_at (pieces ++ 92 ∷ more) ≡ BadEscape (92 ∷ more)
 pieces_at-bad text pieces more are none =
-    pieces_at-pieces text pieces (92 ∷ more) are ∙ ap (with_front text) (no_piece more none)
+    pieces_at-pieces text pieces (92 ∷ more) are ∙ ap (with_prefix text) (no_piece more none)
 
 -- where the bytes end a text has no end
 nothing : pieces_at [] ≡ NoEnd
@@ -286,4 +286,4 @@ nothing = refl
 pub pieces_at-no_end : (text pieces : List ℕ) → ArePieces pieces text → pieces_at pieces ≡ NoEnd
 pieces_at-no_end text pieces are =
     ap pieces_at (sym (append-nil pieces)) ∙ pieces_at-pieces text pieces [] are
-    ∙ ap (with_front text) nothing
+    ∙ ap (with_prefix text) nothing

@@ -26,7 +26,7 @@ module _ (p : ℕ → Bool) where
   pub run-no : (b : ℕ) (bs : List ℕ) → p b ≡ false → prefix_len p (b ∷ bs) ≡ 0
   run-no b bs e = rw e refl
 
-  -- the bytes in front pass
+  -- the bytes at the start pass
   pub run_passes : (bytes : List ℕ) → AllAre p (take (prefix_len p bytes) bytes)
   run_passes [] = tt
   run_passes (b ∷ bs) =
@@ -45,8 +45,8 @@ module _ (p : ℕ → Bool) where
       ]
 
   -- such bytes are the run
-  pub run_is : (front back : List ℕ) → AllAre p front → StopsAt p back
-      → prefix_len p (front ++ back) ≡ length front
+  pub run_is : (prefix back : List ℕ) → AllAre p prefix → StopsAt p back
+      → prefix_len p (prefix ++ back) ≡ length prefix
   run_is [] [] all stops = refl
   run_is [] (b ∷ bs) all stops = run-no b bs stops
   run_is (b ∷ bs) back all stops = run-yes b (bs ++ back) all.0 ∙ ap suc (run_is bs back all.1 stops)

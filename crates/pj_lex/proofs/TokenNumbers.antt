@@ -16,7 +16,7 @@ grows : (n : ℕ) (bytes : List ℕ) → n ≤ fold with_digit n bytes
 grows n [] = omega arith
 grows n (b ∷ bs) = let h = grows (with_digit n b) bs in omega arith
 
--- a digit and those in front of it make no larger number than all of them
+-- a digit and those before it make no larger number than all of them
 pub digits_value_grows : (bytes : List ℕ) (i : ℕ) → i < length bytes
     → with_digit (digits_value (take i bytes)) (get_or bytes i 0) ≤ digits_value bytes
 digits_value_grows bytes i lt =

@@ -7,8 +7,8 @@ use Rattle.pj_lex.specs.declared.cutting.LexFault.TheVariants as faults
 use Rattle.pj_lex.specs.Bytes.{IsBlank}
 use Rattle.pj_lex.specs.Tokens.{IsFirst, IsBad}
 
--- in these bytes, which begin at this place, no token stands behind the blanks in front;
--- and the place of that
+-- in these bytes, which begin at this offset, no token stands behind the blanks at the start;
+-- and the offset of that
 pub record BreaksFrom (here : ℕ) (bytes : List ℕ) (at : ℕ) : Type 0 where
   pub blanks : List ℕ
   pub rest : List ℕ
@@ -16,9 +16,9 @@ pub record BreaksFrom (here : ℕ) (bytes : List ℕ) (at : ℕ) : Type 0 where
   pub blank : IsBlank blanks
   pub offset : ℕ
   pub bad : IsBad rest offset
-  pub place : at ≡ here + length blanks + offset
+  pub position : at ≡ here + length blanks + offset
 
--- what the code found first in these bytes, which begin at this place
+-- what the code found first in these bytes, which begin at this offset
 abbrev pub IsNextToken : ℕ → List ℕ → Result (Option (Token × Bor (List ℕ))) LexFault → Type 0
 IsNextToken here bytes (Ok None) = IsBlank bytes
 IsNextToken here bytes (Ok (Some found)) = IsFirst here bytes found.0 found.1.now

@@ -1,6 +1,7 @@
 -- Bytes of a script by their use (docs/GRAMMAR.md, "Bytes").
-use Rattle.std.specs.Prelude.{◌≡◌, ℕ, ◌-◌, Bool, true, ◌||◌, ◌&&◌, List, ◌==◌, nat_le, if◌then◌else◌}
-use Rattle.std.specs.List.{AllByRecursion}
+use Rattle.std.specs.Prelude.{◌≡◌, ℕ, ◌-◌, Bool, true, ◌||◌, ◌&&◌, List, drop, ◌==◌, nat_le}
+use Rattle.std.specs.Prelude.{if◌then◌else◌}
+use Rattle.std.specs.List.{AllByRecursion, prefix_len}
 
 -- a space, a tab or a carriage return
 abbrev pub is_blank : ℕ → Bool
@@ -37,3 +38,7 @@ AllAre test bytes = AllByRecursion (λ b. test b ≡ true) bytes
 -- blanks alone, maybe none
 abbrev pub IsBlank : List ℕ → Type 0
 IsBlank bytes = AllAre is_blank bytes
+
+-- the bytes behind the blanks at the start
+unfoldable pub after_blanks : List ℕ → List ℕ
+after_blanks bytes = drop (prefix_len is_blank bytes) bytes

@@ -17,6 +17,6 @@ abbrev pub NoTokensWithABreak : Type 0
 NoTokensWithABreak =
     (body : List ℕ) (tokens : List Token) (at : ℕ) → AreTokens body tokens → BreaksAt body at → ⊥
 
--- a body breaks at one place
+-- a body breaks at one offset
 abbrev pub OneBreak : Type 0
 OneBreak = (body : List ℕ) (a b : ℕ) → BreaksAt body a → BreaksAt body b → a ≡ b

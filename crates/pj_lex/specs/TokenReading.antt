@@ -10,14 +10,14 @@ use Rattle.pj_lex.specs.declared.stuck.Stuck.{Stuck}
 use Rattle.pj_lex.specs.declared.stuck.Stuck.TheVariants as stucks
 use Rattle.pj_lex.specs.declared.texts.Piece.{Piece}
 use Rattle.pj_lex.specs.declared.texts.Piece.TheVariants as parts
-use Rattle.pj_lex.specs.Bytes.{is_blank, is_digit, begins_word, is_word_byte}
+use Rattle.pj_lex.specs.Bytes.{is_digit, begins_word, is_word_byte}
 use Rattle.pj_lex.specs.Tokens.{digits_value}
 
 -- what a token is, and the bytes behind it
 abbrev pub Found : Type 0
 Found = TokenKind × List ℕ
 
--- what is found, or the bytes from the place of a bad token on
+-- what is found, or the bytes from a bad token on
 abbrev pub Read : Type 0
 Read = Result Found (List ℕ)
 
@@ -31,10 +31,6 @@ abbrev pub Gives : {X : Type 0} → (X → Found) → Result X Stuck → Read �
 Gives view (Ok x) read = read ≡ Ok (view x)
 Gives view (Err e) read = Fails e read
 
--- the bytes behind the blanks in front
-unfoldable pub after_blanks : List ℕ → List ℕ
-after_blanks bytes = drop (prefix_len is_blank bytes) bytes
-
 -- ---- words and numbers
 
 -- whether a letter, a digit or `_` is next
@@ -42,11 +38,11 @@ abbrev pub goes_on : List ℕ → Bool
 goes_on [] = false
 goes_on (b ∷ bs) = is_word_byte b
 
--- the word in front
+-- the word at the start
 unfoldable pub word_at : List ℕ → Found
 word_at bytes = (kinds.Word, drop (prefix_len is_word_byte bytes) bytes)
 
--- the number in front, which no letter or `_` may touch
+-- the number at the start, which no letter or `_` may touch
 unfoldable pub number_at : List ℕ → Option Found
 number_at bytes =
     if goes_on (drop (prefix_len is_digit bytes) bytes) then None
@@ -91,13 +87,13 @@ abbrev pub before : List ℕ → Option Symbol → Option FoundSymbol
 before rest None = None
 before rest (Some symbol) = Some (symbol, rest)
 
--- the symbol of two bytes in front
+-- the symbol of two bytes at the start
 abbrev pub two_at : List ℕ → Option FoundSymbol
 two_at [] = None
 two_at (b ∷ []) = None
 two_at (b ∷ c ∷ rest) = before rest (symbol_of_two b c)
 
--- the symbol of one byte in front
+-- the symbol of one byte at the start
 abbrev pub one_at : List ℕ → Option FoundSymbol
 one_at [] = None
 one_at (b ∷ rest) = before rest (symbol_of_one b)
@@ -107,7 +103,7 @@ abbrev pub first_found : Option FoundSymbol → Option FoundSymbol → Option Fo
 first_found None other = other
 first_found (Some found) other = Some found
 
--- the symbol in front, the longest that there is
+-- the symbol at the start, the longest that there is
 unfoldable pub symbol_at : List ℕ → Option FoundSymbol
 symbol_at bytes = first_found (two_at bytes) (one_at bytes)
 
@@ -131,29 +127,29 @@ pub data Pieces : Type 0 where
   NoEnd : Pieces
 
 -- bytes of the text, and the pieces behind them
-abbrev pub with_front : List ℕ → Pieces → Pieces
-with_front front (Closed text rest) = Closed (front ++ text) rest
-with_front front (BadEscape bytes) = BadEscape bytes
-with_front front NoEnd = NoEnd
+abbrev pub with_prefix : List ℕ → Pieces → Pieces
+with_prefix prefix (Closed text rest) = Closed (prefix ++ text) rest
+with_prefix prefix (BadEscape bytes) = BadEscape bytes
+with_prefix prefix NoEnd = NoEnd
 
 -- what an escape stands for, and the pieces behind it
 abbrev pub with_escape : List ℕ → Option ℕ → Pieces → Pieces
 with_escape bytes None pieces = BadEscape bytes
-with_escape bytes (Some byte) pieces = with_front (byte ∷ []) pieces
+with_escape bytes (Some byte) pieces = with_prefix (byte ∷ []) pieces
 
 -- the pieces of bytes that are inside a text
 unfoldable pub pieces_at : List ℕ → Pieces
 pieces_at [] = NoEnd
 pieces_at (b ∷ []) = if b == 39 then Closed [] [] else (if b == 92 then BadEscape (b ∷ []) else NoEnd)
 pieces_at (b ∷ c ∷ rest) =
-    if b == 39 then (if c == 39 then with_front (39 ∷ []) (pieces_at rest) else Closed [] (c ∷ rest))
+    if b == 39 then (if c == 39 then with_prefix (39 ∷ []) (pieces_at rest) else Closed [] (c ∷ rest))
     else (if b == 92 then with_escape (b ∷ c ∷ rest) (escaped c) (pieces_at rest)
-    else with_front (b ∷ []) (pieces_at (c ∷ rest)))
+    else with_prefix (b ∷ []) (pieces_at (c ∷ rest)))
 
--- what the code found in front of bytes that are inside a text is what their pieces begin with
+-- what the code found first in bytes that are inside a text is what their pieces begin with
 abbrev pub Steps : Piece → List ℕ → Type 0
 Steps (parts.Byte byte rest) bytes =
-    (pieces_at bytes ≡ with_front (byte ∷ []) (pieces_at rest.now)) × (length rest.now < length bytes)
+    (pieces_at bytes ≡ with_prefix (byte ∷ []) (pieces_at rest.now)) × (length rest.now < length bytes)
 Steps (parts.Close rest) bytes = pieces_at bytes ≡ Closed [] rest.now
 Steps parts.BadEscape bytes = pieces_at bytes ≡ BadEscape bytes
 Steps parts.NoEnd bytes = pieces_at bytes ≡ NoEnd
@@ -171,7 +167,7 @@ abbrev pub symbol_token : Option FoundSymbol → Option Found
 symbol_token None = None
 symbol_token (Some found) = Some (kinds.Symbol found.0, found.1)
 
--- the token in front, if it is no text
+-- the token at the start, if it is no text
 unfoldable pub plain_at : List ℕ → Option Found
 plain_at [] = None
 plain_at (b ∷ bs) =
@@ -183,7 +179,7 @@ abbrev pub found_or_bad : List ℕ → Option Found → Read
 found_or_bad bytes None = Err bytes
 found_or_bad bytes (Some found) = Ok found
 
--- the token in front
+-- the token at the start
 unfoldable pub token_at : List ℕ → Read
 token_at [] = Err []
 token_at (b ∷ bs) =

@@ -85,18 +85,6 @@ Ends (kinds.Symbol symbol) bytes more = IsLongest bytes more
 
 -- ---- the tokens of a body
 
--- the token stands first in these bytes of the body, which begin at this place, blanks before it aside;
--- these are behind it
-pub record IsFirst (here : ℕ) (bytes : List ℕ) (token : Token) (more : List ℕ) : Type 0 where
-  pub blanks : List ℕ
-  pub text : List ℕ
-  pub whole : bytes ≡ blanks ++ (text ++ more)
-  pub blank : IsBlank blanks
-  pub at : token.at ≡ here + length blanks
-  pub end : token.end ≡ token.at + length text
-  pub spelled : Spells token.kind text
-  pub ended : Ends token.kind text more
-
 -- behind blanks a token of this kind stands first, with these bytes, and these are behind it
 pub record StandsFirst (bytes : List ℕ) (kind : TokenKind) (text more : List ℕ) : Type 0 where
   pub blanks : List ℕ
@@ -105,7 +93,14 @@ pub record StandsFirst (bytes : List ℕ) (kind : TokenKind) (text more : List �
   pub spelled : Spells kind text
   pub ended : Ends kind text more
 
--- these tokens stand first, one behind the other, and lead from a place and the bytes there to another
+-- the token stands first in these bytes of the body, which begin at this offset; these are behind it
+pub record IsFirst (here : ℕ) (bytes : List ℕ) (token : Token) (more : List ℕ) : Type 0 where
+  pub text : List ℕ
+  pub stands : StandsFirst bytes token.kind text more
+  pub at : token.at ≡ here + length stands.blanks
+  pub end : token.end ≡ token.at + length text
+
+-- these tokens stand first, one behind the other, and lead from an offset and the bytes there to another
 abbrev pub Lead : ℕ → List ℕ → List Token → ℕ → List ℕ → Type 0
 Lead here bytes [] there rest = (there ≡ here) × (rest ≡ bytes)
 Lead here bytes (token ∷ tokens) there rest =
@@ -115,13 +110,13 @@ Lead here bytes (token ∷ tokens) there rest =
 abbrev pub AreTokens : List ℕ → List Token → Type 0
 AreTokens body tokens = (there : ℕ) × (rest : List ℕ) × Lead 0 body tokens there rest × IsBlank rest
 
--- ---- the place of a bad token
+-- ---- the offset of a bad token
 
 -- a letter or `_` stands first
 abbrev pub BeginsWord : List ℕ → Type 0
 BeginsWord bytes = (b : ℕ) × (more : List ℕ) × (bytes ≡ b ∷ more) × (begins_word b ≡ true)
 
--- all the digits in front, whose number is too large, or which a letter or `_` touches
+-- all the digits at the start, whose number is too large, or which a letter or `_` touches
 pub record IsBadNumber (bytes : List ℕ) : Type 0 where
   pub digits : List ℕ
   pub more : List ℕ
@@ -157,25 +152,25 @@ pub record IsNoToken (bytes : List ℕ) : Type 0 where
   pub word : begins_word first ≡ false
   pub digit : is_digit first ≡ false
   pub quote : first ≢ 39
-  pub symbol : (symbol : Symbol) (front back : List ℕ) → bytes ≡ front ++ back
-      → Contains (spellings symbol) front → ⊥
+  pub symbol : (symbol : Symbol) (prefix back : List ℕ) → bytes ≡ prefix ++ back
+      → Contains (spellings symbol) prefix → ⊥
 
--- no token stands first in these bytes, and the place of that is so far from their front
+-- no token stands first in these bytes, and that is so far from their start
 abbrev pub IsBad : List ℕ → ℕ → Type 0
 IsBad bytes offset =
     ((offset ≡ 0) × (IsBadNumber bytes ⊎ (IsTextWithoutEnd bytes ⊎ IsNoToken bytes)))
     ⊎ IsBadEscape bytes offset
 
--- behind some tokens and blanks no token stands, and this is the place of that
+-- behind some tokens and blanks no token stands, and this is the offset of that
 pub record BreaksAt (body : List ℕ) (at : ℕ) : Type 0 where
   pub tokens : List Token
   pub there : ℕ
   pub rest : List ℕ
-  pub front : Lead 0 body tokens there rest
+  pub prefix : Lead 0 body tokens there rest
   pub blanks : List ℕ
   pub bytes : List ℕ
   pub whole : rest ≡ blanks ++ bytes
   pub blank : IsBlank blanks
   pub offset : ℕ
   pub bad : IsBad bytes offset
-  pub place : at ≡ there + length blanks + offset
+  pub position : at ≡ there + length blanks + offset

@@ -1,7 +1,7 @@
 //! Bytes by their use.
 ghost use Rattle.std.specs.Prelude.{◌≡◌, ◌≤◌, length};
 ghost use Rattle.std.specs.List.{prefix_len};
-ghost use Rattle.pj_lex.specs.Bytes.{is_blank, is_digit, begins_word, is_word_byte};
+ghost use Rattle.pj_lex.specs.Bytes.{is_blank, is_digit, begins_word, is_word_byte, after_blanks};
 
 /// Whether the byte is a space, a tab or a carriage return. A line feed is none of these.
 pub fn is_blank(b: u8) -> bool
@@ -32,15 +32,23 @@ pub fn is_word_byte(b: u8) -> bool
 }
 
 /// How many blanks the bytes begin with. It reads these and one byte more.
-pub fn blanks_in_front(bytes: &[u8]) -> usize
+pub fn blank_prefix(bytes: &[u8]) -> usize
     ensures count { result ≡ prefix_len is_blank bytes.now }
     ensures within { result ≤ length bytes.now }
 {
     bytes.iter().take_while(|b| is_blank(**b)).count()
 }
 
+/// The bytes behind the blanks that the bytes begin with.
+#[tactic(auto, unfolding(crate::specs::Bytes::after_blanks))]
+pub fn skip_blanks(bytes: &[u8]) -> &[u8]
+    ensures { result.now ≡ after_blanks bytes.now }
+{
+    bytes.split_at(blank_prefix(bytes)).1
+}
+
 /// How many digits the bytes begin with. It reads these and one byte more.
-pub fn digits_in_front(bytes: &[u8]) -> usize
+pub fn digit_prefix(bytes: &[u8]) -> usize
     ensures count { result ≡ prefix_len is_digit bytes.now }
     ensures within { result ≤ length bytes.now }
 {
@@ -48,7 +56,7 @@ pub fn digits_in_front(bytes: &[u8]) -> usize
 }
 
 /// How many letters, digits and `_` the bytes begin with. It reads these and one byte more.
-pub fn word_bytes_in_front(bytes: &[u8]) -> usize
+pub fn word_prefix(bytes: &[u8]) -> usize
     ensures count { result ≡ prefix_len is_word_byte bytes.now }
     ensures within { result ≤ length bytes.now }
 {

@@ -1,11 +1,12 @@
-//! Cuts a body into its tokens, from the front, in one scan.
+//! Cuts a body into its tokens, from the start, in one scan.
 ghost use Rattle.std.specs.Prelude.{◌≡◌, ◌-◌, ◌≤◌, length, IfOk, IfErr};
 ghost use Rattle.pj_lex.specs.declared.cutting.LexFault.TheVariants as faults;
 ghost use Rattle.pj_lex.specs.Tokens.{AreTokens};
 ghost use Rattle.pj_lex.specs.Faults.{HasLexCause};
 ghost use Rattle.pj_lex.specs.BodyReading.{IsNextToken};
 
-use crate::scan::{read_token, skip_blanks};
+use crate::bytes::skip_blanks;
+use crate::scan::read_token;
 use crate::stuck::Stuck;
 use crate::token::Token;
 use std::alloc::{AllocFailed, Global};
@@ -18,8 +19,8 @@ pub enum LexFault {
     /// escape, or the first quote where the text has no end.
     #[error("bad token at byte {at}")]
     BadToken { at: usize },
-    /// There was no memory for the tokens. The body may have tokens or not.
-    #[error("no memory")]
+    /// Out of memory: the body may have tokens or not.
+    #[error("out of memory")]
     NoMemory,
 }
 
@@ -60,7 +61,7 @@ pub fn tokens(alloc: Global, body: &[u8]) -> Result<Vec<Token>, LexFault>
     ensures tokens { IfOk result (λ found. AreTokens body.now found.items) }
 
     // A body has tokens or breaks (`tokens_or_break`), and none does both (`no_tokens_with_a_break`),
-    // so these leave one answer beside want of memory.
+    // so these leave one answer beside out of memory.
     ensures bad { IfErr result (HasLexCause body.now) }
 {
     let mut tokens = Vec::new(alloc);

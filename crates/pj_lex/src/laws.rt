@@ -16,7 +16,7 @@ pub fn no_tokens_with_a_break()
     ensures { NoTokensWithABreak }
 {}
 
-/// A body breaks at one place.
+/// A body breaks at one offset.
 pub fn one_break()
     ensures { OneBreak }
 {}

@@ -3,7 +3,7 @@
 
 pub mod bytes;
 mod cutting;
-pub mod front;
+pub mod first;
 mod laws;
 mod scan;
 mod stuck;
@@ -13,6 +13,3 @@ mod token;
 pub use cutting::{LexFault, tokens};
 pub use laws::{no_tokens_with_a_break, one_break, one_list, tokens_or_break};
 pub use token::{Symbol, Token, TokenKind};
-
-#[cfg(test)]
-mod tests;

@@ -1,26 +1,16 @@
-//! One token, read from the front of the bytes that are left.
+//! One token, read from the start of the bytes that are left.
 ghost use Rattle.std.specs.Prelude.{◌≡◌, ◌^◌, Some, None, nat_lt, option_map, if◌then◌else◌};
 ghost use Rattle.pj_lex.specs.Bytes.{is_digit, AllAre};
 ghost use Rattle.pj_lex.specs.Tokens.{digits_value};
-ghost use Rattle.pj_lex.specs.TokenReading.{Gives, after_blanks, goes_on, word_at, number_at};
+ghost use Rattle.pj_lex.specs.TokenReading.{Gives, goes_on, word_at, number_at};
 ghost use Rattle.pj_lex.specs.TokenReading.{symbol_of_two, symbol_of_one, two_at, one_at, symbol_at};
 ghost use Rattle.pj_lex.specs.TokenReading.{symbol_token, plain_at, token_at};
 
-use crate::bytes::{
-    begins_word, blanks_in_front, digits_in_front, is_digit, is_word_byte, word_bytes_in_front,
-};
+use crate::bytes::{begins_word, digit_prefix, is_digit, is_word_byte, word_prefix};
 use crate::stuck::Stuck;
 use crate::texts::read_text;
 use crate::token::{Symbol, TokenKind};
 use std::alloc::Global;
-
-/// The bytes behind the blanks in front.
-#[tactic(auto, unfolding(crate::specs::TokenReading::after_blanks))]
-pub fn skip_blanks(bytes: &[u8]) -> &[u8]
-    ensures { result.now ≡ after_blanks bytes.now }
-{
-    bytes.split_at(blanks_in_front(bytes)).1
-}
 
 /// The number of these digits, if it has at most 64 bits.
 pub fn number_of(digits: &[u8]) -> Option<u64>
@@ -46,21 +36,21 @@ pub fn goes_on(bytes: &[u8]) -> bool
     }
 }
 
-/// The word in front, where a letter or `_` is next.
+/// The word at the start, where a letter or `_` is next.
 #[tactic(auto, unfolding(crate::specs::TokenReading::word_at))]
 fn read_word(bytes: &[u8]) -> (TokenKind, &[u8])
     ensures { (result.0, result.1.now) ≡ word_at bytes.now }
 {
-    let (_, rest) = bytes.split_at(word_bytes_in_front(bytes));
+    let (_, rest) = bytes.split_at(word_prefix(bytes));
     (TokenKind::Word, rest)
 }
 
-/// The number in front, where a digit is next.
+/// The number at the start, where a digit is next.
 #[tactic(auto, unfolding(crate::specs::TokenReading::number_at))]
 fn read_number(bytes: &[u8]) -> Option<(TokenKind, &[u8])>
     ensures { option_map (λ x. (x.0, x.1.now)) result ≡ number_at bytes.now }
 {
-    let (digits, rest) = bytes.split_at(digits_in_front(bytes));
+    let (digits, rest) = bytes.split_at(digit_prefix(bytes));
     if goes_on(rest) {
         return None;
     }
@@ -101,7 +91,7 @@ fn symbol_of_one(byte: u8) -> Option<Symbol>
     }
 }
 
-/// The symbol of two bytes in front.
+/// The symbol of two bytes at the start.
 fn two_bytes(bytes: &[u8]) -> Option<(Symbol, &[u8])>
     ensures { option_map (λ x. (x.0, x.1.now)) result ≡ two_at bytes.now }
 {
@@ -111,7 +101,7 @@ fn two_bytes(bytes: &[u8]) -> Option<(Symbol, &[u8])>
     }
 }
 
-/// The symbol of one byte in front.
+/// The symbol of one byte at the start.
 fn one_byte(bytes: &[u8]) -> Option<(Symbol, &[u8])>
     ensures { option_map (λ x. (x.0, x.1.now)) result ≡ one_at bytes.now }
 {
@@ -121,7 +111,7 @@ fn one_byte(bytes: &[u8]) -> Option<(Symbol, &[u8])>
     }
 }
 
-/// The symbol in front, the longest that there is.
+/// The symbol at the start, the longest that there is.
 #[tactic(auto, unfolding(crate::specs::TokenReading::symbol_at))]
 fn read_symbol(bytes: &[u8]) -> Option<(TokenKind, &[u8])>
     ensures { option_map (λ x. (x.0, x.1.now)) result ≡ symbol_token (symbol_at bytes.now) }
@@ -130,7 +120,7 @@ fn read_symbol(bytes: &[u8]) -> Option<(TokenKind, &[u8])>
     Some((TokenKind::Symbol(symbol), rest))
 }
 
-/// The token in front, where neither a blank nor a quote is next.
+/// The token at the start, where neither a blank nor a quote is next.
 #[tactic(auto, unfolding(crate::specs::TokenReading::plain_at))]
 fn read_plain(bytes: &[u8]) -> Option<(TokenKind, &[u8])>
     ensures { option_map (λ x. (x.0, x.1.now)) result ≡ plain_at bytes.now }
@@ -143,7 +133,7 @@ fn read_plain(bytes: &[u8]) -> Option<(TokenKind, &[u8])>
     }
 }
 
-/// The token in front, where no blank is next, and the bytes behind it. It takes time linear in the token.
+/// The token at the start, where no blank is next, and the bytes behind it. It takes time linear in the token.
 #[tactic(auto, unfolding(crate::specs::TokenReading::token_at))]
 pub fn read_token(alloc: Global, bytes: &[u8]) -> Result<(TokenKind, &[u8]), Stuck<'_>>
     ensures { Gives (λ x. (x.0, x.1.now)) result (token_at bytes.now) }

@@ -5,9 +5,9 @@ ghost use Rattle.pj_lex.specs.declared.stuck.Stuck.TheVariants as stucks;
 use std::alloc::AllocFailed;
 
 /// Why no token was read.
-#[derive(Clone, Copy, Debug)]
+#[derive(Clone, Copy)]
 pub enum Stuck<'a> {
-    /// A bad token, by the bytes from its place to the end of the body.
+    /// A bad token, by the bytes from its offset to the end of the body.
     At(&'a [u8]),
     NoMemory,
 }

@@ -9,7 +9,7 @@ use pj_value::Text;
 use std::alloc::Global;
 
 /// What stands first in bytes that are inside a text.
-#[derive(Clone, Copy, Debug)]
+#[derive(Clone, Copy)]
 pub enum Piece<'a> {
     /// The byte that the piece stands for, and the bytes behind the piece.
     Byte(u8, &'a [u8]),
@@ -36,7 +36,7 @@ fn escaped(b: u8) -> Option<u8>
     }
 }
 
-/// The piece in front.
+/// The piece at the start.
 #[tactic(auto, unfolding(crate::specs::TokenReading::pieces_at))]
 fn next_piece(bytes: &[u8]) -> Piece<'_>
     ensures { Steps result bytes.now }
@@ -55,7 +55,7 @@ fn next_piece(bytes: &[u8]) -> Piece<'_>
 }
 
 /// The text whose first quote stands before the bytes inside, and the bytes behind it. Where it has no end,
-/// the place is told by `bytes`.
+/// `bytes` tell the offset.
 pub fn text_inside<'a>(
     alloc: Global,
     bytes: &'a [u8],
@@ -78,7 +78,7 @@ pub fn text_inside<'a>(
     }
 }
 
-/// The text in front as a token.
+/// The text at the start as a token.
 pub fn read_text<'a>(
     alloc: Global,
     bytes: &'a [u8],

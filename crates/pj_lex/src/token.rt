@@ -49,8 +49,8 @@ pub enum TokenKind {
 #[derive(Debug, Drop)]
 pub struct Token {
     pub kind: TokenKind,
-    /// The place of its first byte, in bytes from the body's start.
+    /// The offset of its first byte in the body.
     pub at: usize,
-    /// The place behind its last byte, in bytes from the body's start.
+    /// The offset behind its last byte.
     pub end: usize,
 }

@@ -3,17 +3,17 @@ use Rattle.std.proofs.Common.{◌≡◌, ℕ, zero, suc, true, false, List, [], 
 use Rattle.std.proofs.Common.{◌∙◌, append_assoc}
 use Rattle.std.proofs.lemmas.List.{append-nil}
 use Rattle.pj_lex.specs.declared.token.Symbol.TheVariants.{Comma}
-use Rattle.pj_parse.specs.declared.types.TreeColumn.{TreeColumn}
-use Rattle.pj_parse.specs.declared.types.TreeProj.{TreeProj}
-use Rattle.pj_parse.specs.declared.rest.Fault.{Fault}
-use Rattle.pj_parse.specs.declared.rest.Fault.TheVariants as faults
-use Rattle.pj_parse.specs.Lexemes.{Lexeme, is_symbol}
-use Rattle.pj_parse.specs.GrammarTables.{Member, defined, projected, columns_in, projections_in}
-use Rattle.pj_parse.specs.Parsing.{Answer, Parser, begins, many_with}
-use Rattle.pj_parse.specs.ParsingWords.{sign_at, behind_at}
-use Rattle.pj_parse.specs.ParsingTables.{Members}
-use Rattle.pj_parse.specs.Given.{Fails}
-use Rattle.pj_parse.proofs.ManyLoop.{going, going-step_behind}
+use Rattle.pj_grammar.specs.declared.types.TreeColumn.{TreeColumn}
+use Rattle.pj_grammar.specs.declared.types.TreeProj.{TreeProj}
+use Rattle.pj_phrase.specs.declared.tokens.rest.Fault.{Fault}
+use Rattle.pj_phrase.specs.declared.tokens.rest.Fault.TheVariants as faults
+use Rattle.pj_grammar.specs.Lexemes.{Lexeme, is_symbol}
+use Rattle.pj_grammar.specs.grammar.Tables.{Member, defined, projected, columns_in, projections_in}
+use Rattle.pj_grammar.specs.parsing.Parser.{Answer, Parser, begins, many_with}
+use Rattle.pj_grammar.specs.parsing.Words.{sign_at, behind_at}
+use Rattle.pj_grammar.specs.parsing.Tables.{Members}
+use Rattle.pj_phrase.specs.Given.{Fails}
+use Rattle.pj_phrase.proofs.ManyLoop.{going, going-step_behind}
 
 -- the columns and the projections so far, with those of members that are still read
 abbrev parted_behind : List TreeColumn → List TreeProj → List Member → Members

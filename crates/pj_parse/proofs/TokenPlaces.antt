@@ -4,7 +4,7 @@ use Rattle.std.specs.List.{AllByRecursion}
 use Rattle.std.proofs.lemmas.List.{length-append}
 use Rattle.pj_lex.specs.declared.token.Token.{Token}
 use Rattle.pj_lex.specs.Tokens.{IsFirst, Lead, AreTokens}
-use Rattle.pj_parse.specs.Lexemes.{LiesIn}
+use Rattle.pj_grammar.specs.Lexemes.{LiesIn}
 
 -- the bytes behind a token reach to the same end
 behind_first : (here : ℕ) (bytes : List ℕ) (token : Token) (more : List ℕ) → IsFirst here bytes token more
@@ -12,8 +12,8 @@ behind_first : (here : ℕ) (bytes : List ℕ) (token : Token) (more : List ℕ)
 behind_first here bytes token more first =
     omega (
       arith,
-      ap length first.whole,
-      length-append first.blanks (first.text ++ more),
+      ap length first.stands.whole,
+      length-append first.stands.blanks (first.text ++ more),
       length-append first.text more,
       first.at,
       first.end,

@@ -1,23 +1,23 @@
 //! Reads what ALTER TABLE does.
-ghost use Rattle.pj_parse.specs.Given.{Gives, both_and};
-ghost use Rattle.pj_parse.specs.ParsingValues.{value_at};
-ghost use Rattle.pj_parse.specs.ParsingStatements.{maybe_there_at, projection_there_at, maybe_not_there_at};
-ghost use Rattle.pj_parse.specs.ParsingStatements.{add_at, assign_at, assigns_at, update_at, delete_rows_at};
-ghost use Rattle.pj_parse.specs.ParsingStatements.{modify_at, action_at};
+ghost use Rattle.pj_phrase.specs.Given.{Gives, both_and};
+ghost use Rattle.pj_grammar.specs.parsing.Values.{value_at};
+ghost use Rattle.pj_grammar.specs.parsing.Statements.{maybe_there_at, projection_there_at, maybe_not_there_at};
+ghost use Rattle.pj_grammar.specs.parsing.Statements.{add_at, assign_at, assigns_at, update_at};
+ghost use Rattle.pj_grammar.specs.parsing.Statements.{delete_rows_at, modify_at, action_at};
 
-use crate::projections::{proj, proj_behind};
-use crate::reading::{keyword, list_name_but_if, name, name_but_if, sign};
-use crate::rest::{Fault, Rest};
-use crate::selects::where_value;
-use crate::settings::mode;
-use crate::types::{TreeAction, TreeAssign};
-use crate::values::value;
+use crate::creates::projections::{proj, proj_behind};
+use crate::selects::clauses::where_value;
+use pj_grammar::types::{TreeAction, TreeAssign};
 use pj_lex::Symbol;
+use pj_phrase::settings::mode;
+use pj_phrase::tokens::rest::{Fault, Rest};
+use pj_phrase::tokens::single::{keyword, list_name_but_if, name, name_but_if, sign};
+use pj_phrase::values::trees::value;
 use pj_value::{List, Text};
 use std::alloc::Global;
 
 /// A name, and whether IF EXISTS stands before it.
-#[tactic(auto, unfolding(crate::specs::ParsingStatements::maybe_there_at))]
+#[tactic(auto, unfolding(pj_grammar::specs::parsing::Statements::maybe_there_at))]
 fn maybe_there<'a>(alloc: Global, rest: Rest<'a>) -> Result<(bool, Text, Rest<'a>), Fault<'a>>
     ensures { Gives both_and result (maybe_there_at rest.entry) }
 {
@@ -32,7 +32,7 @@ fn maybe_there<'a>(alloc: Global, rest: Rest<'a>) -> Result<(bool, Text, Rest<'a
 }
 
 /// The name of a projection behind the keyword of these capitals, and whether IF EXISTS stands before it.
-#[tactic(auto, unfolding(crate::specs::ParsingStatements::projection_there_at))]
+#[tactic(auto, unfolding(pj_grammar::specs::parsing::Statements::projection_there_at))]
 fn projection_there<'a>(
     alloc: Global,
     capitals: &[u8],
@@ -46,7 +46,7 @@ fn projection_there<'a>(
 }
 
 /// The projection that is added, with IF NOT EXISTS or without.
-#[tactic(auto, unfolding(crate::specs::ParsingStatements::maybe_not_there_at))]
+#[tactic(auto, unfolding(pj_grammar::specs::parsing::Statements::maybe_not_there_at))]
 fn maybe_not_there<'a>(
     alloc: Global,
     most: usize,
@@ -76,7 +76,7 @@ fn maybe_not_there<'a>(
 }
 
 /// ADD PROJECTION.
-#[tactic(auto, unfolding(crate::specs::ParsingStatements::add_at))]
+#[tactic(auto, unfolding(pj_grammar::specs::parsing::Statements::add_at))]
 fn add<'a>(alloc: Global, most: usize, rest: Rest<'a>) -> Result<(TreeAction, Rest<'a>), Fault<'a>>
     ensures { Gives (λ x. x) result (add_at (value_at most) rest.entry) }
 {
@@ -86,7 +86,7 @@ fn add<'a>(alloc: Global, most: usize, rest: Rest<'a>) -> Result<(TreeAction, Re
 }
 
 /// An assignment.
-#[tactic(auto, unfolding(crate::specs::ParsingStatements::assign_at))]
+#[tactic(auto, unfolding(pj_grammar::specs::parsing::Statements::assign_at))]
 fn assign<'a>(
     alloc: Global,
     most: usize,
@@ -101,7 +101,7 @@ fn assign<'a>(
 }
 
 /// Assignments between commas.
-#[tactic(auto, unfolding(crate::specs::ParsingStatements::assigns_at))]
+#[tactic(auto, unfolding(pj_grammar::specs::parsing::Statements::assigns_at))]
 fn assigns<'a>(
     alloc: Global,
     most: usize,
@@ -127,7 +127,7 @@ fn assigns<'a>(
 }
 
 /// UPDATE.
-#[tactic(auto, unfolding(crate::specs::ParsingStatements::update_at))]
+#[tactic(auto, unfolding(pj_grammar::specs::parsing::Statements::update_at))]
 fn update<'a>(
     alloc: Global,
     most: usize,
@@ -142,7 +142,7 @@ fn update<'a>(
 }
 
 /// DELETE.
-#[tactic(auto, unfolding(crate::specs::ParsingStatements::delete_rows_at))]
+#[tactic(auto, unfolding(pj_grammar::specs::parsing::Statements::delete_rows_at))]
 fn delete_rows<'a>(
     alloc: Global,
     most: usize,
@@ -156,7 +156,7 @@ fn delete_rows<'a>(
 }
 
 /// MODIFY SETTING.
-#[tactic(auto, unfolding(crate::specs::ParsingStatements::modify_at))]
+#[tactic(auto, unfolding(pj_grammar::specs::parsing::Statements::modify_at))]
 fn modify<'a>(rest: Rest<'a>) -> Result<(TreeAction, Rest<'a>), Fault<'a>>
     ensures { Gives (λ x. x) result (modify_at rest.entry) }
 {
@@ -167,7 +167,7 @@ fn modify<'a>(rest: Rest<'a>) -> Result<(TreeAction, Rest<'a>), Fault<'a>>
 }
 
 /// What ALTER TABLE does.
-#[tactic(auto, unfolding(crate::specs::ParsingStatements::action_at))]
+#[tactic(auto, unfolding(pj_grammar::specs::parsing::Statements::action_at))]
 pub(crate) fn action<'a>(
     alloc: Global,
     most: usize,

@@ -1,23 +1,24 @@
-//! Reads a statement, and a line of one.
-ghost use Rattle.pj_parse.specs.Given.{Gives};
-ghost use Rattle.pj_parse.specs.ParsingValues.{value_at};
-ghost use Rattle.pj_parse.specs.ParsingStatements.{delete_at, alter_at, optimize_at, set_session_at};
-ghost use Rattle.pj_parse.specs.ParsingStatements.{table_behind_at, statement_at, line_at};
+//! Reads a statement, which its first word tells.
+ghost use Rattle.pj_phrase.specs.Given.{Gives};
+ghost use Rattle.pj_grammar.specs.parsing.Values.{value_at};
+ghost use Rattle.pj_grammar.specs.parsing.Statements.{delete_at, alter_at, optimize_at, set_session_at};
+ghost use Rattle.pj_grammar.specs.parsing.Statements.{table_behind_at, statement_at, sentence_at};
 
 use crate::actions::action;
-use crate::reading::{keyword, name, sign};
-use crate::rest::{Fault, Rest};
-use crate::rows::insert;
-use crate::selects::{explain, select, where_value};
-use crate::settings::{own_sets, set_list};
-use crate::tables::create;
-use crate::types::Statement;
+use crate::creates::create;
+use crate::row_lists::insert;
+use crate::selects::clauses::where_value;
+use crate::selects::{explain, select};
+use pj_grammar::types::Statement;
 use pj_lex::Symbol;
+use pj_phrase::settings::{own_sets, set_list};
+use pj_phrase::tokens::rest::{Fault, Rest};
+use pj_phrase::tokens::single::{keyword, name, sign};
 use pj_value::Text;
 use std::alloc::Global;
 
 /// DELETE.
-#[tactic(auto, unfolding(crate::specs::ParsingStatements::delete_at))]
+#[tactic(auto, unfolding(pj_grammar::specs::parsing::Statements::delete_at))]
 fn delete<'a>(
     alloc: Global,
     most: usize,
@@ -39,7 +40,7 @@ fn delete<'a>(
 }
 
 /// ALTER TABLE.
-#[tactic(auto, unfolding(crate::specs::ParsingStatements::alter_at))]
+#[tactic(auto, unfolding(pj_grammar::specs::parsing::Statements::alter_at))]
 fn alter<'a>(alloc: Global, most: usize, rest: Rest<'a>) -> Result<(Statement, Rest<'a>), Fault<'a>>
     ensures { Gives (λ x. x) result (alter_at (value_at most) rest.entry) }
 {
@@ -57,7 +58,7 @@ fn alter<'a>(alloc: Global, most: usize, rest: Rest<'a>) -> Result<(Statement, R
 }
 
 /// OPTIMIZE TABLE.
-#[tactic(auto, unfolding(crate::specs::ParsingStatements::optimize_at))]
+#[tactic(auto, unfolding(pj_grammar::specs::parsing::Statements::optimize_at))]
 fn optimize<'a>(alloc: Global, rest: Rest<'a>) -> Result<(Statement, Rest<'a>), Fault<'a>>
     ensures { Gives (λ x. x) result (optimize_at rest.entry) }
 {
@@ -69,7 +70,7 @@ fn optimize<'a>(alloc: Global, rest: Rest<'a>) -> Result<(Statement, Rest<'a>), 
 }
 
 /// SET.
-#[tactic(auto, unfolding(crate::specs::ParsingStatements::set_session_at))]
+#[tactic(auto, unfolding(pj_grammar::specs::parsing::Statements::set_session_at))]
 fn set_session<'a>(alloc: Global, rest: Rest<'a>) -> Result<(Statement, Rest<'a>), Fault<'a>>
     ensures { Gives (λ x. x) result (set_session_at rest.entry) }
 {
@@ -79,7 +80,7 @@ fn set_session<'a>(alloc: Global, rest: Rest<'a>) -> Result<(Statement, Rest<'a>
 }
 
 /// The name of a table behind the keyword of these capitals.
-#[tactic(auto, unfolding(crate::specs::ParsingStatements::table_behind_at))]
+#[tactic(auto, unfolding(pj_grammar::specs::parsing::Statements::table_behind_at))]
 fn table_behind<'a>(
     alloc: Global,
     capitals: &[u8],
@@ -92,7 +93,7 @@ fn table_behind<'a>(
 }
 
 /// A statement, which its first word tells.
-#[tactic(auto, unfolding(crate::specs::ParsingStatements::statement_at))]
+#[tactic(auto, unfolding(pj_grammar::specs::parsing::Statements::statement_at))]
 fn statement_of<'a>(
     alloc: Global,
     most: usize,
@@ -135,13 +136,13 @@ fn statement_of<'a>(
 }
 
 /// A statement, with a semicolon behind it or without.
-#[tactic(auto, unfolding(crate::specs::ParsingStatements::line_at))]
-pub(crate) fn line<'a>(
+#[tactic(auto, unfolding(pj_grammar::specs::parsing::Statements::sentence_at))]
+pub(crate) fn sentence<'a>(
     alloc: Global,
     most: usize,
     rest: Rest<'a>,
 ) -> Result<(Statement, Rest<'a>), Fault<'a>>
-    ensures { Gives (λ x. x) result (line_at (value_at most) rest.entry) }
+    ensures { Gives (λ x. x) result (sentence_at (value_at most) rest.entry) }
 {
     let (statement, rest) = statement_of(alloc, most, rest)?;
     let rest = if rest.begins_symbol(Symbol::Semicolon) {

@@ -8,9 +8,9 @@ use Rattle.std.proofs.lemmas.List.{length_push}
 use Rattle.std.proofs.lemmas.Option.{same_Some}
 use Rattle.pj_value.specs.declared.value.Value.{Value}
 use Rattle.pj_value.specs.Rows.{KindedRows, HaveKinds}
-use Rattle.pj_parse.specs.declared.types.Statement.{Statement}
-use Rattle.pj_parse.specs.declared.types.Statement.TheVariants as statements
-use Rattle.pj_parse.specs.declared.types.TreeSelect.{TreeSelect}
+use Rattle.pj_grammar.specs.declared.types.Statement.{Statement}
+use Rattle.pj_grammar.specs.declared.types.Statement.TheVariants as statements
+use Rattle.pj_grammar.specs.declared.types.TreeSelect.{TreeSelect}
 use Rattle.pj_expr.specs.declared.query.Query.{Query}
 use Rattle.pj_expr.specs.declared.table.ColumnDef.{ColumnDef}
 use Rattle.pj_expr.specs.declared.table.Table.{Table}
@@ -31,24 +31,24 @@ use Rattle.pj_bind.specs.declared.binding.BindFault.{BindFault}
 use Rattle.pj_bind.specs.declared.binding.BindFault.TheVariants as faults
 use Rattle.pj_legal.specs.declared.reply.Reply.{Reply}
 use Rattle.pj_legal.specs.declared.reply.Reply.TheVariants as replies
-use Rattle.pj_expr.specs.Answers.{Answers}
+use Rattle.pj_answer.specs.Answers.{Answers}
 use Rattle.pj_bind.specs.Built.{IsBuilt}
 use Rattle.pj_bind.specs.Filling.{column_kinds, filled_row, FillsRow, FillColumns, filled_rows}
-use Rattle.pj_parse.specs.Lexemes.{Lexeme, lexemes}
-use Rattle.pj_parse.specs.GrammarStatements.{Line}
+use Rattle.pj_grammar.specs.Lexemes.{Lexeme, lexemes}
+use Rattle.pj_grammar.specs.grammar.Statements.{IsStatement}
 use Rattle.pj_bind.specs.Tables.{table_of}
 use Rattle.pj_bind.specs.Laws.{BoundTablesFit}
 use Rattle.pj_bind.specs.Binding.{Asks, IsBound, IsRefusal}
 use Rattle.pj_bind.specs.Faults.{IsBindFault}
-use Rattle.pj_legal.specs.Binding.{BodyReads, BodyBinds, BodyIsRefused}
+use Rattle.pj_legal.specs.Bodies.{BodyReads, BodyBinds, IsBodyRefusal}
 use Rattle.pj_legal.specs.Laws.{HistoryRefusesNoBody}
-use Rattle.pj_legal.specs.Statements.{Said, whole}
+use Rattle.pj_legal.specs.Statements.{Request, whole}
 use Rattle.pj_legal.specs.Forms.{Course, entry_of, no_memory, history_full, BoundForm, Form, StopsAfter}
 use Rattle.pj_legal.specs.Forms.{MayStarve, MovesOn}
 use Rattle.pj_legal.specs.Full.{HasNext}
 use Rattle.pj_legal.specs.Run.{IsStep, course}
 use Rattle.pj_server.specs.declared.server.By.{By}
-use Rattle.pj_server.specs.Moves.{said_of, Adds, BoundFits, BoundStops, Fills, BoundDone}
+use Rattle.pj_server.specs.Moves.{request_of, Adds, BoundFits, BoundStops, Fills, BoundDone}
 use Rattle.pj_server.specs.Moves.{Does, Serves, ChangesNothing, IsReadFault}
 use Rattle.pj_server.proofs.HistoryLemmas.{catalog-push, catalog_on-nothing}
 
@@ -67,17 +67,10 @@ filled_kinds columns (Some names) rows fill = each rows fill
 -- the query that a SELECT asks for fits its table
 asks_fits : (table : Table) (select : TreeSelect) (query : Query) → Asks table select query
     → FitsQuery (kinds_of table) query
-asks_fits table select query asks = record {
-  filter = asks.kinds.kept.filter;
-  items = asks.kinds.kept.items;
-  groups = asks.kinds.kept.groups;
-  order = asks.kinds.kept.order;
-  items_of_group = asks.groups.items;
-  order_of_group = asks.groups.order;
-}
+asks_fits table select query asks = record { kinds = asks.kinds.kept; groups = asks.groups }
 
 bound_fits : BoundTablesFit → (ts : List Lexeme) (tables : List Table) (statement : Statement) (bound : Bound)
-    → Line ts statement → IsBound tables statement bound → BoundFits tables bound
+    → IsStatement ts statement → IsBound tables statement bound → BoundFits tables bound
 bound_fits fit ts tables (statements.Create name columns projections key settings) bound line (can, is) =
     let table = table_of name columns key settings in
     subst (BoundFits tables) (sym is) (
@@ -100,7 +93,7 @@ bound_fits fit ts tables (statements.Mutate name) bound line h = absurd h
 pub body_fits : BoundTablesFit → (tables : List Table) (body : List ℕ) (bound : Bound)
     → BodyBinds tables body bound → BoundFits tables bound
 body_fits fit tables body bound h =
-    bound_fits fit (lexemes body h.1.tokens) tables h.0 bound h.1.line h.3
+    bound_fits fit (lexemes body h.1.tokens) tables h.0 bound h.1.spelled h.3
 
 -- what was read is bound, or refused, for the tables that the history leaves
 pub read_binds : (held tables : List Table) (body : List ℕ) (statement : Statement)
@@ -134,14 +127,14 @@ pub entries-nil : (a b : Log) → Adds a b [] → b.entries ≡ a.entries
 entries-nil a b p = p.grown ∙ append-nil a.entries
 
 -- a statement that begins when nothing was added yet
-pub Serves-after : (a b c : Log) (said : Said) (reply : Reply) → Adds a b [] → Serves b c said reply
-    → Serves a c said reply
-Serves-after a b c said reply none h =
+pub Serves-after : (a b c : Log) (request : Request) (reply : Reply) → Adds a b [] → Serves b c request reply
+    → Serves a c request reply
+Serves-after a b c request reply none h =
     let same = entries-nil a b none in (
       h.0,
       Adds-trans a b c [] h.0 none h.1,
-      subst (λ es. IsStep a.limit es said h.0 reply) same
-          (subst (λ l. IsStep l b.entries said h.0 reply) none.limit h.2),
+      subst (λ es. IsStep a.limit es request h.0 reply) same
+          (subst (λ l. IsStep l b.entries request h.0 reply) none.limit h.2),
     )
 
 -- ---- statements that stop before their first move, or are refused by it
@@ -149,15 +142,15 @@ Serves-after a b c said reply none h =
 no_memory-full : no_memory ≡ history_full → ⊥
 no_memory-full same = cc
 
--- no memory, though the journal has room
-pub serves_no_memory : (a b : Log) (said : Said) → Adds a b [] → (IsFull a → ⊥) → Serves a b said no_memory
-serves_no_memory a b said none room = (
+-- out of memory, though the journal has room
+pub serves_no_memory : (a b : Log) (request : Request) → Adds a b [] → (IsFull a → ⊥) → Serves a b request no_memory
+serves_no_memory a b request none room = (
   [],
   none,
   record {
     form = inr (inr (inl (record { stopped = inl refl; reply = refl })));
     full = λ same. absurd (no_memory-full same);
-    told = λ full next. absurd (room (omega (arith, full)));
+    always = λ full next. absurd (room (omega (arith, full)));
   },
 )
 
@@ -165,22 +158,22 @@ serves_no_memory a b said none room = (
 pub below-full : (a : Log) → length a.entries < a.limit → IsFull a → ⊥
 below-full a below full = omega arith
 
-pub serves_full : (a b : Log) (said : Said) → Adds a b [] → IsFull a → Serves a b said history_full
-serves_full a b said none full = (
+pub serves_full : (a b : Log) (request : Request) → Adds a b [] → IsFull a → Serves a b request history_full
+serves_full a b request none full = (
   [],
   none,
   record {
     form = inr (inr (inr (inl (record { stopped = inl refl; reply = refl }))));
     full = λ same. omega (arith, full);
-    told = λ fills next. refl;
+    always = λ fills next. refl;
   },
 )
 
-pub serves_refusal : HistoryRefusesNoBody → (a b : Log) (said : Said) (refusal : Refusal)
-    → BodyIsRefused (catalog a.entries) said.body refusal → Adds a b (entry_of said whats.Refused ∷ [])
-    → Serves a b said (replies.Refused refusal)
-serves_refusal never a b said refusal refused adds = (
-  entry_of said whats.Refused ∷ [],
+pub serves_refusal : HistoryRefusesNoBody → (a b : Log) (request : Request) (refusal : Refusal)
+    → IsBodyRefusal (catalog a.entries) request.body refusal → Adds a b (entry_of request whats.Refused ∷ [])
+    → Serves a b request (replies.Refused refusal)
+serves_refusal never a b request refusal refused adds = (
+  entry_of request whats.Refused ∷ [],
   adds,
   record {
     form = inl (record {
@@ -190,9 +183,9 @@ serves_refusal never a b said refusal refused adds = (
       moves = refl;
       reply = refl;
     });
-    full = λ same. absurd (never (catalog a.entries) said.body
-        (subst (BodyIsRefused (catalog a.entries) said.body) (is_limit refusal same) refused));
-    told = λ fills next. absurd next;
+    full = λ same. absurd (never (catalog a.entries) request.body
+        (subst (IsBodyRefusal (catalog a.entries) request.body) (is_limit refusal same) refused));
+    always = λ fills next. absurd next;
   },
 )
   where
@@ -209,17 +202,17 @@ same_form place line session one other (bounds.Create table) went h = h
 same_form place line session one other (bounds.Insert table rs) went h = h
 same_form place line session one other (bounds.Select table query) went h = h
 
-stops_after : (sort : Bound → What → Type 0) (place : List Entry) (said : Said) (bound : Bound)
+stops_after : (sort : Bound → What → Type 0) (place : List Entry) (request : Request) (bound : Bound)
     (added : List Entry) (reply : Reply)
-    → BodyBinds (catalog place) said.body bound → BoundStops sort said bound added
-    → StopsAfter sort said (course place added reply)
-stops_after sort place said bound added reply binds (inl none) = inl (ap (moves_from place) none)
-stops_after sort place said bound added reply binds (inr one) =
+    → BodyBinds (catalog place) request.body bound → BoundStops sort request bound added
+    → StopsAfter sort request (course place added reply)
+stops_after sort place request bound added reply binds (inl none) = inl (ap (moves_from place) none)
+stops_after sort place request bound added reply binds (inr one) =
     inr (place, bound, one.0, binds, one.1, ap (moves_from place) one.2)
 
 -- what a bound statement did is the form of its body
 form_of_bound : (old : Log) (by : By) (body : List ℕ) (bound : Bound) (added : List Entry) (reply : Reply)
-    → BodyBinds (catalog old.entries) body bound → BoundDone old (said_of by) bound added reply
+    → BodyBinds (catalog old.entries) body bound → BoundDone old (request_of by) bound added reply
     → Form (whole by.line by.session body) (course old.entries added reply)
 form_of_bound old by body bound added reply binds (inl done) =
     inr (inl (record {
@@ -242,80 +235,80 @@ form_of_bound old by body bound added reply binds (inr (inr early)) =
     }))))
 
 -- one that is done tells no full journal
-done_not_full : (place : List Entry) (said : Said) (bound : Bound) (added : List Entry) (reply : Reply)
-    → BoundForm place said bound (course place added reply) → reply ≡ history_full → ⊥
-done_not_full place said (bounds.Create table) added reply form same =
+done_not_full : (place : List Entry) (request : Request) (bound : Bound) (added : List Entry) (reply : Reply)
+    → BoundForm place request bound (course place added reply) → reply ≡ history_full → ⊥
+done_not_full place request (bounds.Create table) added reply form same =
     let is : reply ≡ replies.Done = same_Some _ _ form.1 in cc
-done_not_full place said (bounds.Insert table rs) added reply form same =
+done_not_full place request (bounds.Insert table rs) added reply form same =
     let is : reply ≡ replies.Done = same_Some _ _ form.3 in cc
-done_not_full place said (bounds.Select table query) added reply form same =
+done_not_full place request (bounds.Select table query) added reply form same =
     let is : reply ≡ replies.Rows form.0 = same_Some _ _ form.3 in cc
 
 -- and has no move to make
-done_no_next : (place : List Entry) (said : Said) (bound : Bound) (went : Course)
-    → BoundForm place said bound went → HasNext went.moves → ⊥
-done_no_next place said (bounds.Create table) went form next = subst HasNext form.0 next
-done_no_next place said (bounds.Insert table rs) went form next = subst HasNext form.2 next
-done_no_next place said (bounds.Select table query) went form next = subst HasNext form.2 next
+done_no_next : (place : List Entry) (request : Request) (bound : Bound) (went : Course)
+    → BoundForm place request bound went → HasNext went.moves → ⊥
+done_no_next place request (bounds.Create table) went form next = subst HasNext form.0 next
+done_no_next place request (bounds.Insert table rs) went form next = subst HasNext form.2 next
+done_no_next place request (bounds.Select table query) went form next = subst HasNext form.2 next
 
-full_of_bound : (old : Log) (said : Said) (bound : Bound) (added : List Entry) (reply : Reply)
-    → BoundDone old said bound added reply → reply ≡ history_full → Fills old added
-full_of_bound old said bound added reply (inl done) same =
-    absurd (done_not_full old.entries said bound added reply done same)
-full_of_bound old said bound added reply (inr (inl early)) same =
+full_of_bound : (old : Log) (request : Request) (bound : Bound) (added : List Entry) (reply : Reply)
+    → BoundDone old request bound added reply → reply ≡ history_full → Fills old added
+full_of_bound old request bound added reply (inl done) same =
+    absurd (done_not_full old.entries request bound added reply done same)
+full_of_bound old request bound added reply (inr (inl early)) same =
     absurd (no_memory-full (sym early.0 ∙ same))
-full_of_bound old said bound added reply (inr (inr early)) same = early.2
+full_of_bound old request bound added reply (inr (inr early)) same = early.2
 
-told_of_bound : (old : Log) (said : Said) (bound : Bound) (added : List Entry) (reply : Reply)
-    → BoundDone old said bound added reply → Fills old added → HasNext (moves_from old.entries added)
+always_of_bound : (old : Log) (request : Request) (bound : Bound) (added : List Entry) (reply : Reply)
+    → BoundDone old request bound added reply → Fills old added → HasNext (moves_from old.entries added)
     → reply ≡ history_full
-told_of_bound old said bound added reply (inl done) fills next =
-    absurd (done_no_next old.entries said bound (course old.entries added reply) done next)
-told_of_bound old said bound added reply (inr (inl early)) fills next = absurd (early.2 fills next)
-told_of_bound old said bound added reply (inr (inr early)) fills next = early.0
+always_of_bound old request bound added reply (inl done) fills next =
+    absurd (done_no_next old.entries request bound (course old.entries added reply) done next)
+always_of_bound old request bound added reply (inr (inl early)) fills next = absurd (early.2 fills next)
+always_of_bound old request bound added reply (inr (inr early)) fills next = early.0
 
 pub serves_bound : (old new : Log) (by : By) (body : List ℕ) (bound : Bound) (reply : Reply)
-    → BodyBinds (catalog old.entries) body bound → Does old new (said_of by) bound reply
+    → BodyBinds (catalog old.entries) body bound → Does old new (request_of by) bound reply
     → Serves old new (whole by.line by.session body) reply
 serves_bound old new by body bound reply binds does = (
   does.0,
   does.1,
   record {
     form = form_of_bound old by body bound does.0 reply binds does.2;
-    full = full_of_bound old (said_of by) bound does.0 reply does.2;
-    told = told_of_bound old (said_of by) bound does.0 reply does.2;
+    full = full_of_bound old (request_of by) bound does.0 reply does.2;
+    always = always_of_bound old (request_of by) bound does.0 reply does.2;
   },
 )
 
-pub does_no_memory : (a b : Log) (said : Said) (bound : Bound) → length a.entries < a.limit → Adds a b []
-    → Does a b said bound no_memory
-does_no_memory a b said bound below none =
+pub does_no_memory : (a b : Log) (request : Request) (bound : Bound) → length a.entries < a.limit → Adds a b []
+    → Does a b request bound no_memory
+does_no_memory a b request bound below none =
     ([], none, inr (inl (refl, inl refl, λ fills next. omega (arith, fills, below))))
 
-pub does_create : (a b : Log) (said : Said) (table : Table)
-    → Adds a b (entry_of said (whats.Created table) ∷ []) → Does a b said (bounds.Create table) replies.Done
-does_create a b said table adds = (entry_of said (whats.Created table) ∷ [], adds, inl (refl, refl))
+pub does_create : (a b : Log) (request : Request) (table : Table)
+    → Adds a b (entry_of request (whats.Created table) ∷ []) → Does a b request (bounds.Create table) replies.Done
+does_create a b request table adds = (entry_of request (whats.Created table) ∷ [], adds, inl (refl, refl))
 
--- an INSERT began, and the journal was full, or there was no memory, or it committed
-module _ (a b c : Log) (said : Said) (table : ℕ) (rs : KindedRows)
-    (begun : Adds a b (entry_of said (whats.Begun table) ∷ [])) (room : Adds b c []) where
-  began : Adds a c (entry_of said (whats.Begun table) ∷ [])
-  began = Adds-trans a b c (entry_of said (whats.Begun table) ∷ []) [] begun room
+-- an INSERT began, and the journal was full, or it was out of memory, or it committed
+module _ (a b c : Log) (request : Request) (table : ℕ) (rs : KindedRows)
+    (begun : Adds a b (entry_of request (whats.Begun table) ∷ [])) (room : Adds b c []) where
+  began : Adds a c (entry_of request (whats.Begun table) ∷ [])
+  began = Adds-trans a b c (entry_of request (whats.Begun table) ∷ []) [] begun room
 
   -- how long the journal is once it began
   long : length b.entries ≡ length a.entries + 1
-  long = ap length begun.grown ∙ length_push a.entries (entry_of said (whats.Begun table))
+  long = ap length begun.grown ∙ length_push a.entries (entry_of request (whats.Begun table))
 
-  pub insert_full : IsFull b → Does a c said (bounds.Insert table rs) history_full
+  pub insert_full : IsFull b → Does a c request (bounds.Insert table rs) history_full
   insert_full full = (
-    entry_of said (whats.Begun table) ∷ [],
+    entry_of request (whats.Begun table) ∷ [],
     began,
     inr (inr (refl, inr (whats.Begun table, refl, refl), omega (arith, long, full, begun.limit))),
   )
 
-  pub insert_stops : (IsFull b → ⊥) → (d : Log) → Adds c d [] → Does a d said (bounds.Insert table rs) no_memory
+  pub insert_stops : (IsFull b → ⊥) → (d : Log) → Adds c d [] → Does a d request (bounds.Insert table rs) no_memory
   insert_stops room_left d none = (
-    entry_of said (whats.Begun table) ∷ [],
+    entry_of request (whats.Begun table) ∷ [],
     Adds-trans a c d _ [] began none,
     inr (inl (
       refl,
@@ -324,12 +317,12 @@ module _ (a b c : Log) (said : Said) (table : ℕ) (rs : KindedRows)
     )),
   )
 
-  pub insert_commits : (d : Log) (block : ℕ) → Adds c d (entry_of said (whats.Inserted table block rs) ∷ [])
-      → Does a d said (bounds.Insert table rs) replies.Done
+  pub insert_commits : (d : Log) (block : ℕ) → Adds c d (entry_of request (whats.Inserted table block rs) ∷ [])
+      → Does a d request (bounds.Insert table rs) replies.Done
   insert_commits d block adds = (
-    entry_of said (whats.Begun table) ∷ entry_of said (whats.Inserted table block rs) ∷ [],
+    entry_of request (whats.Begun table) ∷ entry_of request (whats.Inserted table block rs) ∷ [],
     Adds-trans a c d _ _ began adds,
-    inl (a.entries ++ entry_of said (whats.Begun table) ∷ [], block, refl, refl),
+    inl (a.entries ++ entry_of request (whats.Begun table) ∷ [], block, refl, refl),
   )
 
 -- the tables are as before once an INSERT began and room was made
@@ -339,12 +332,12 @@ tables_stay a b c e nothing begun room =
     ap catalog (entries-nil b c room ∙ begun.grown) ∙ catalog-push a.entries e
     ∙ catalog_on-nothing (catalog a.entries) e.what nothing
 
-pub does_select : (a b : Log) (said : Said) (table : ℕ) (query : Query) (held out : KindedRows)
+pub does_select : (a b : Log) (request : Request) (table : ℕ) (query : Query) (held out : KindedRows)
     → held ≡ table_rows a.entries table → Answers query held out
-    → Adds a b (entry_of said (whats.Looked table) ∷ [])
-    → Does a b said (bounds.Select table query) (replies.Rows out)
-does_select a b said table query held out same right adds = (
-  entry_of said (whats.Looked table) ∷ [],
+    → Adds a b (entry_of request (whats.Looked table) ∷ [])
+    → Does a b request (bounds.Select table query) (replies.Rows out)
+does_select a b request table query held out same right adds = (
+  entry_of request (whats.Looked table) ∷ [],
   adds,
   inl (out, subst (λ xs. Answers query xs out) same right, refl, refl),
 )

@@ -2,6 +2,7 @@
 use Rattle.std.proofs.Common.{◌≡◌, ℕ, ◌+◌, ◌<◌, ◌≤◌, suc, Bool, true, false, ◌&&◌, cond, nat_le}
 use Rattle.std.proofs.Common.{List, [], ◌∷◌, ◌++◌, length, get_or, take, map}
 use Rattle.std.proofs.Common.{Option, Some, refl, sym, ap, subst, ◌∙◌, inl, inr, arith}
+use Rattle.std.proofs.Common.{Result, Ok, Err, OnOk, OnErr}
 use Rattle.std.specs.Prelude.{codes}
 use Rattle.std.specs.Fmt.{decimal}
 use Rattle.std.specs.Io.KnownBytes.{Appends}
@@ -9,28 +10,28 @@ use Rattle.std.proofs.KnownBytes.{Appends-nil, Appends-trans}
 use Rattle.std.proofs.lemmas.Bool.{le-leb}
 use Rattle.std.proofs.lemmas.List.{take_all, take-map, map_more, take-append-le, length-map, length-append}
 use Rattle.pj_io.specs.Transfers.{AppendsPart}
-use Rattle.pj_parse.specs.declared.types.ScriptMode.TheVariants.{Play}
-use Rattle.pj_parse.specs.declared.types.Script.{Script}
-use Rattle.pj_parse.specs.declared.types.ScriptLine.{ScriptLine}
-use Rattle.pj_parse.specs.Lines.{IsScript, IsBadLine}
-use Rattle.pj_parse.specs.LineLaws.{RisesFrom}
+use Rattle.pj_script.specs.declared.types.ScriptMode.TheVariants.{Play}
+use Rattle.pj_script.specs.declared.types.Script.{Script}
+use Rattle.pj_script.specs.declared.types.ScriptLine.{ScriptLine}
+use Rattle.pj_script.specs.Lines.{IsScript, IsBadLine}
+use Rattle.pj_script.specs.LineLaws.{RisesFrom}
 use Rattle.pj_journal.specs.declared.entry.Entry.{Entry}
 use Rattle.pj_journal.specs.History.{IsRegular}
 use Rattle.pj_journal.specs.Log.{Log, empty_log}
 use Rattle.pj_legal.specs.declared.reply.Reply.{Reply}
-use Rattle.pj_legal.specs.Statements.{Said, whole, body_of, statement_of, statements, Shown}
+use Rattle.pj_legal.specs.Statements.{Request, whole, body_of, statement_of, statements, Shown}
 use Rattle.pj_legal.specs.Shares.{Rise}
 use Rattle.pj_legal.specs.Run.{IsStep, shown_at, cut}
-use Rattle.pj_legal.specs.Laws.{lines_said, AreNamed, RunsAreLegal, CutRunsAreLegal, RunGoesOn, TextsGoOn}
+use Rattle.pj_legal.specs.Laws.{request_lines, AreNamed, RunsAreLegal, CutRunsAreLegal, RunGoesOn, TextsGoOn}
 use Rattle.pj_legal.specs.Texts.{as_line, name_at, reply_text, shown_text, replies_text, entries_text}
 use Rattle.pj_legal.specs.Texts.{history_text}
-use Rattle.pj_server.specs.declared.end.End.{End}
-use Rattle.pj_server.specs.declared.end.End.TheVariants.{Usage, SourceFailed, TooLarge, BadLine}
-use Rattle.pj_server.specs.declared.end.End.TheVariants.{SinkFailed, NoMemory, Finished}
+use Rattle.pj_server.specs.declared.ending.End.{End}
+use Rattle.pj_server.specs.declared.ending.End.TheVariants.{Usage, SourceFailed, TooLarge, BadLine}
+use Rattle.pj_server.specs.declared.ending.End.TheVariants.{SinkFailed, NoMemory, Finished}
 use Rattle.pj_server.specs.Moves.{Serves}
 use Rattle.pj_server.specs.RunLines.{Writes, RunsLine, RunsLines}
 use Rattle.pj_server.specs.Ends.{TellsLine, WholeScript, PartScript, ScriptEnds, FinishesSo}
-use Rattle.pj_server.specs.Played.{history_entries, IsRead, bad_line_text, RunsSo, EndsSo}
+use Rattle.pj_server.specs.Played.{history_entries, IsRead, bad_line_text, TellsBadLine, RunsSo, EndsSo}
 
 -- ---- proper prefixes of a text
 
@@ -82,10 +83,24 @@ Writes-after : (end : End) (a b c : Option (List ℕ)) (xs ys : List ℕ) → Ap
 Writes-after Finished a b c xs ys p q = Appends-trans a b c xs ys p q
 Writes-after SinkFailed a b c xs ys p q = AppendsPart-after a b c xs ys p q
 Writes-after NoMemory a b c xs ys p q = AppendsPart-after a b c xs ys p q
-Writes-after BadLine a b c xs ys p q = absurd q
+Writes-after (BadLine line) a b c xs ys p q = absurd q
 Writes-after Usage a b c xs ys p q = absurd q
 Writes-after SourceFailed a b c xs ys p q = absurd q
 Writes-after TooLarge a b c xs ys p q = absurd q
+
+-- ---- by how a write ended
+
+pub OnOk-map : {T E P Q : Type 0} (r : Result T E) → (P → Q) → OnOk r P → OnOk r Q
+OnOk-map (Ok v) f h = f h
+OnOk-map (Err e) f h = tt
+
+pub OnErr-map : {T E P Q : Type 0} (r : Result T E) → (P → Q) → OnErr r P → OnErr r Q
+OnErr-map (Ok v) f h = tt
+OnErr-map (Err e) f h = f h
+
+pub OnErr-any : {T E P : Type 0} (r : Result T E) → P → OnErr r P
+OnErr-any (Ok v) h = tt
+OnErr-any (Err e) h = h
 
 -- ---- one line after the other
 
@@ -99,18 +114,18 @@ pub RunsLines-more : RunGoesOn → TextsGoOn
     → i < length lines → line ≡ get_or lines i line → RunsLines Finished i old mid names lines a b
     → RunsLine end mid new names (statement_of line) b c → RunsLines end (i + 1) old new names lines a c
 RunsLines-more goes_on texts end i old mid new names lines line a b c lt at so_far one =
-    let said = statement_of line in
-    let saids = take i (map statement_of lines) in
-    let more : take (i + 1) (map statement_of lines) ≡ saids ++ said ∷ [] =
+    let request = statement_of line in
+    let requests = take i (map statement_of lines) in
+    let more : take (i + 1) (map statement_of lines) ≡ requests ++ request ∷ [] =
     take-map statement_of (i + 1) lines ∙ map_more statement_of lines i line lt
     ∙ ap (λ l. map statement_of (take i lines) ++ statement_of l ∷ []) (sym at)
-    ∙ ap (λ xs. xs ++ said ∷ []) (sym (take-map statement_of i lines)) in
+    ∙ ap (λ xs. xs ++ request ∷ []) (sym (take-map statement_of i lines)) in
     let added = one.serves.0 in
-    let ran : IsStep old.limit mid.entries said added one.reply =
-    subst (λ l. IsStep l mid.entries said added one.reply) so_far.limit one.serves.2 in
+    let ran : IsStep old.limit mid.entries request added one.reply =
+    subst (λ l. IsStep l mid.entries request added one.reply) so_far.limit one.serves.2 in
     let run =
-    goes_on old.limit old.entries saids so_far.replies mid.entries said added one.reply so_far.run ran in
-    let shown : Shown = shown_at said one.reply in
+    goes_on old.limit old.entries requests so_far.replies mid.entries request added one.reply so_far.run ran in
+    let shown : Shown = shown_at request one.reply in
     let text =
     Writes-after end a b c (replies_text names so_far.replies) (shown_text names shown) so_far.written
     one.written in
@@ -124,12 +139,12 @@ RunsLines-more goes_on texts end i old mid new names lines line a b c lt at so_f
 -- ---- a whole script
 
 pub lines_rise : (low : ℕ) (lines : List ScriptLine) → RisesFrom low lines
-    → Rise low (lines_said (map statement_of lines))
+    → Rise low (request_lines (map statement_of lines))
 lines_rise low [] h = tt
 lines_rise low (line ∷ lines) h = (h.0, lines_rise line.line lines h.1)
 
 module _ (runs : RunsAreLegal) (parts : CutRunsAreLegal) (limit : ℕ) (wanted : Bool) (script : Script)
-    (log : Log) (rise : Rise 0 (lines_said (statements script))) (named : AreNamed script)
+    (log : Log) (rise : Rise 0 (request_lines (statements script))) (named : AreNamed script)
     (regular : IsRegular log.entries) (few : length log.entries ≤ log.limit) where
   -- the history's text where some first lines are all
   abbrev tail : ℕ → List ℕ
@@ -200,7 +215,7 @@ module _ (runs : RunsAreLegal) (parts : CutRunsAreLegal) (limit : ℕ) (wanted :
       part_of Finished count a b r c
       (rw (tail_is count all wish)
       (AppendsPart-after a b c _ (history_text script.names log.entries) r.written h))
-  with_history BadLine count a b c r all wish h = absurd h
+  with_history (BadLine line) count a b c r all wish h = absurd h
   with_history Usage count a b c r all wish h = absurd h
   with_history SourceFailed count a b c r all wish h = absurd h
   with_history TooLarge count a b c r all wish h = absurd h
@@ -224,7 +239,7 @@ module _ (runs : RunsAreLegal) (parts : CutRunsAreLegal) (limit : ℕ) (wanted :
       subst (λ e. ScriptEnds e limit wanted script log.entries a c) (sym h.0)
       (subst (PartScript limit wanted script log.entries a) (sym h.1)
       (stopped NoMemory count a b r r.written))
-  by_wish BadLine end count a b c asked r all is h = absurd r.written
+  by_wish (BadLine line) end count a b c asked r all is h = absurd r.written
   by_wish Usage end count a b c asked r all is h = absurd r.written
   by_wish SourceFailed end count a b c asked r all is h = absurd r.written
   by_wish TooLarge end count a b c asked r all is h = absurd r.written
@@ -272,7 +287,7 @@ runs_script NoMemory limit wanted bytes script h a b spelled e =
       kept = e.kept;
       written = e.written;
     }))
-runs_script BadLine limit wanted bytes script h a b spelled e = absurd e
+runs_script (BadLine line) limit wanted bytes script h a b spelled e = absurd e
 runs_script Usage limit wanted bytes script h a b spelled e = absurd e
 runs_script SourceFailed limit wanted bytes script h a b spelled e = absurd e
 runs_script TooLarge limit wanted bytes script h a b spelled e = absurd e
@@ -281,8 +296,8 @@ pub runs_bad_line : (end : End) (limit : ℕ) (wanted : Bool) (bytes : List ℕ)
     (a b : Option (List ℕ))
     → IsBadLine Play bytes line
     → TellsLine end line a b → RunsSo end limit wanted bytes [] a b
-runs_bad_line BadLine limit wanted bytes line a b bad e =
-    record { line = line; bad = bad; none = refl; written = e }
+runs_bad_line (BadLine told) limit wanted bytes line a b bad e =
+    subst (λ n. TellsBadLine n bytes [] a b) (sym e.0) (record { bad = bad; none = refl; written = e.1 })
 runs_bad_line SinkFailed limit wanted bytes line a b bad e =
     inl (record { line = line; bad = bad; none = refl; written = e })
 runs_bad_line NoMemory limit wanted bytes line a b bad e =
@@ -304,7 +319,7 @@ pub ends_read : (end : End) (wish : Option Bool) (wanted : Bool) (bytes : List �
     → RunsSo end history_entries wanted bytes h a b → EndsSo end wish left rest h a b
 ends_read Finished wish wanted bytes left rest h a b wished read run =
     record { wanted = wanted; wished = wished; bytes = bytes; read = read; run = run }
-ends_read BadLine wish wanted bytes left rest h a b wished read run =
+ends_read (BadLine line) wish wanted bytes left rest h a b wished read run =
     record { wanted = wanted; wished = wished; bytes = bytes; read = read; run = run }
 ends_read SinkFailed wish wanted bytes left rest h a b wished read run =
     record { wanted = wanted; wished = wished; bytes = bytes; read = read; run = run }

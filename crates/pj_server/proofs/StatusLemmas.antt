@@ -4,22 +4,22 @@ use Rattle.std.proofs.Common.{None, refl, ap, subst, ◌∙◌, inl, inr, append
 use Rattle.std.specs.Prelude.{Contains}
 use Rattle.std.specs.Io.KnownBytes.{Consumes, IsAtEnd}
 use Rattle.std.proofs.lemmas.List.{length-append}
-use Rattle.pj_parse.specs.declared.types.ScriptMode.TheVariants.{Play}
-use Rattle.pj_parse.specs.declared.types.Script.{Script}
-use Rattle.pj_parse.specs.Lines.{IsScript, IsBadLine}
-use Rattle.pj_parse.specs.LineLaws.{NoScriptWithABadLine}
+use Rattle.pj_script.specs.declared.types.ScriptMode.TheVariants.{Play}
+use Rattle.pj_script.specs.declared.types.Script.{Script}
+use Rattle.pj_script.specs.Lines.{IsScript, IsBadLine}
+use Rattle.pj_script.specs.LineLaws.{NoScriptWithABadLine}
 use Rattle.pj_journal.specs.declared.entry.Entry.{Entry}
-use Rattle.pj_server.specs.declared.end.End.{End}
-use Rattle.pj_server.specs.declared.end.End.TheVariants.{Usage, SourceFailed, TooLarge, BadLine}
-use Rattle.pj_server.specs.declared.end.End.TheVariants.{SinkFailed, NoMemory, Finished}
+use Rattle.pj_server.specs.declared.ending.End.{End}
+use Rattle.pj_server.specs.declared.ending.End.TheVariants.{Usage, SourceFailed, TooLarge, BadLine}
+use Rattle.pj_server.specs.declared.ending.End.TheVariants.{SinkFailed, NoMemory, Finished}
 use Rattle.pj_server.specs.Status.{status_of}
-use Rattle.pj_server.specs.Played.{script_bytes, EndsSo}
+use Rattle.pj_server.specs.Played.{script_bytes, EndsSo, Reads}
 
 -- no other status
 pub statuses : (end : End) → Contains (0 ∷ 2 ∷ 3 ∷ 4 ∷ 5 ∷ 6 ∷ 7 ∷ []) (status_of end)
 statuses Finished = (0, lit< tt, refl)
 statuses Usage = (1, lit< tt, refl)
-statuses BadLine = (2, lit< tt, refl)
+statuses (BadLine line) = (2, lit< tt, refl)
 statuses SourceFailed = (3, lit< tt, refl)
 statuses SinkFailed = (4, lit< tt, refl)
 statuses NoMemory = (5, lit< tt, refl)
@@ -42,7 +42,7 @@ pub sink_blamed : (end : End) (before after : ℕ) → ((end ≡ SinkFailed → 
 sink_blamed SinkFailed before after calm rose = refl
 sink_blamed Finished before after calm rose = absurd (omega (arith, rose, calm (λ e. cc)))
 sink_blamed Usage before after calm rose = absurd (omega (arith, rose, calm (λ e. cc)))
-sink_blamed BadLine before after calm rose = absurd (omega (arith, rose, calm (λ e. cc)))
+sink_blamed (BadLine line) before after calm rose = absurd (omega (arith, rose, calm (λ e. cc)))
 sink_blamed SourceFailed before after calm rose = absurd (omega (arith, rose, calm (λ e. cc)))
 sink_blamed NoMemory before after calm rose = absurd (omega (arith, rose, calm (λ e. cc)))
 sink_blamed TooLarge before after calm rose = absurd (omega (arith, rose, calm (λ e. cc)))
@@ -54,12 +54,12 @@ pub source_blamed : (end : End) (before after : ℕ) → ((end ≡ SourceFailed 
 source_blamed SourceFailed before after calm rose = refl
 source_blamed Finished before after calm rose = absurd (omega (arith, rose, calm (λ e. cc)))
 source_blamed Usage before after calm rose = absurd (omega (arith, rose, calm (λ e. cc)))
-source_blamed BadLine before after calm rose = absurd (omega (arith, rose, calm (λ e. cc)))
+source_blamed (BadLine line) before after calm rose = absurd (omega (arith, rose, calm (λ e. cc)))
 source_blamed SinkFailed before after calm rose = absurd (omega (arith, rose, calm (λ e. cc)))
 source_blamed NoMemory before after calm rose = absurd (omega (arith, rose, calm (λ e. cc)))
 source_blamed TooLarge before after calm rose = absurd (omega (arith, rose, calm (λ e. cc)))
 
--- a script of the grammar is run to its end, or there is no memory
+-- a script of the grammar is run to its end, or the call is out of memory
 pub completes : NoScriptWithABadLine
     → (end : End) (wish : Option Bool) (left rest : Option (List ℕ)) (h : List Entry) (a b : Option (List ℕ))
     → EndsSo end wish left rest h a b
@@ -72,18 +72,18 @@ completes law SourceFailed wish left rest h a b ends source sink bytes script to
     absurd (source refl)
 completes law TooLarge wish left rest h a b ends source sink bytes script told few spelled taken =
     absurd (too_long bytes ends.1.0 rest (subst (λ l. Consumes l rest ends.1.0) told ends.1.2) ends.1.1 few)
-completes law BadLine wish left rest h a b ends source sink bytes script told few spelled taken =
+completes law (BadLine line) wish left rest h a b ends source sink bytes script told few spelled taken =
     let same =
     all_read bytes ends.bytes rest
     (subst (λ l. Consumes l rest ends.bytes) told ends.read.consumed) ends.read.at_end in
-    absurd (law Play ends.bytes script ends.run.line
+    absurd (law Play ends.bytes script line
     (subst (λ bs. IsScript Play bs script) same spelled) ends.run.bad)
 completes law SinkFailed wish left rest h a b ends source sink bytes script told few spelled taken =
     absurd (sink refl)
 completes law NoMemory wish left rest h a b ends source sink bytes script told few spelled taken = inr refl
 completes law Finished wish left rest h a b ends source sink bytes script told few spelled taken = inl refl
 
--- a bad line is told, or there is no memory
+-- a bad line is told, or the call is out of memory
 pub tells_bad_line : NoScriptWithABadLine
     → (end : End) (wish : Option Bool) (left rest : Option (List ℕ)) (h : List Entry) (a b : Option (List ℕ))
     → EndsSo end wish left rest h a b
@@ -96,7 +96,7 @@ tells_bad_line law SourceFailed wish left rest h a b ends source sink bytes line
     absurd (source refl)
 tells_bad_line law TooLarge wish left rest h a b ends source sink bytes line told few bad taken =
     absurd (too_long bytes ends.1.0 rest (subst (λ l. Consumes l rest ends.1.0) told ends.1.2) ends.1.1 few)
-tells_bad_line law BadLine wish left rest h a b ends source sink bytes line told few bad taken = inl refl
+tells_bad_line law (BadLine first) wish left rest h a b ends source sink bytes line told few bad taken = inl refl
 tells_bad_line law SinkFailed wish left rest h a b ends source sink bytes line told few bad taken =
     absurd (sink refl)
 tells_bad_line law NoMemory wish left rest h a b ends source sink bytes line told few bad taken = inr refl
@@ -106,3 +106,16 @@ tells_bad_line law Finished wish left rest h a b ends source sink bytes line tol
     (subst (λ l. Consumes l rest ends.bytes) told ends.read.consumed) ends.read.at_end in
     absurd (law Play ends.bytes ends.run.script line ends.run.spelled
     (subst (λ bs. IsBadLine Play bs line) same bad))
+
+-- status 3 has the bad line that was told
+pub read_bad_line : (end : End) (wish : Option Bool) (left rest : Option (List ℕ)) (h : List Entry)
+    (a b : Option (List ℕ))
+    → EndsSo end wish left rest h a b → status_of end ≡ 3
+    → (line : ℕ) × (end ≡ BadLine line) × Reads (BadLine line) wish left rest h a b
+read_bad_line (BadLine line) wish left rest h a b ends is = (line, refl, ends)
+read_bad_line Usage wish left rest h a b ends is = let bad : 2 ≡ 3 = is in absurd (omega (arith, bad))
+read_bad_line SourceFailed wish left rest h a b ends is = let bad : 4 ≡ 3 = is in absurd (omega (arith, bad))
+read_bad_line TooLarge wish left rest h a b ends is = let bad : 7 ≡ 3 = is in absurd (omega (arith, bad))
+read_bad_line SinkFailed wish left rest h a b ends is = let bad : 5 ≡ 3 = is in absurd (omega (arith, bad))
+read_bad_line NoMemory wish left rest h a b ends is = let bad : 6 ≡ 3 = is in absurd (omega (arith, bad))
+read_bad_line Finished wish left rest h a b ends is = let bad : 0 ≡ 3 = is in absurd (omega (arith, bad))

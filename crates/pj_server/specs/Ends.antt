@@ -2,20 +2,21 @@
 use Rattle.std.specs.Prelude.{◌≡◌, ℕ, Bool, true, false, List, Option}
 use Rattle.std.specs.Io.KnownBytes.{Appends}
 use Rattle.pj_io.specs.Transfers.{AppendsPart}
-use Rattle.pj_parse.specs.declared.types.Script.{Script}
+use Rattle.pj_script.specs.declared.types.Script.{Script}
 use Rattle.pj_journal.specs.declared.entry.Entry.{Entry}
 use Rattle.pj_legal.specs.Statements.{Shown}
 use Rattle.pj_legal.specs.Legal.{IsPlayed}
 use Rattle.pj_legal.specs.Full.{KeepsLimit}
 use Rattle.pj_legal.specs.Run.{cut}
-use Rattle.pj_server.specs.declared.end.End.{End}
-use Rattle.pj_server.specs.declared.end.End.TheVariants as ends
+use Rattle.pj_server.specs.declared.ending.End.{End}
+use Rattle.pj_server.specs.declared.ending.End.TheVariants as ends
 use Rattle.pj_server.specs.Played.{bad_line_text, output, output_of_part}
 use Rattle.pj_server.specs.RunLines.{Writes}
 
 -- a bad line was told, or a proper prefix of its text was
 abbrev pub TellsLine : End → ℕ → Option (List ℕ) → Option (List ℕ) → Type 0
-TellsLine ends.BadLine line before after = Appends before after (bad_line_text line)
+TellsLine (ends.BadLine told) line before after =
+    (told ≡ line) × Appends before after (bad_line_text line)
 TellsLine ends.SinkFailed line before after = AppendsPart before after (bad_line_text line)
 TellsLine ends.NoMemory line before after = AppendsPart before after (bad_line_text line)
 TellsLine ends.Finished line before after = ⊥
@@ -45,7 +46,7 @@ abbrev pub ScriptEnds : End → ℕ → Bool → Script → List Entry → Optio
 ScriptEnds ends.Finished limit wanted script h before after = WholeScript limit wanted script h before after
 ScriptEnds ends.SinkFailed limit wanted script h before after = PartScript limit wanted script h before after
 ScriptEnds ends.NoMemory limit wanted script h before after = PartScript limit wanted script h before after
-ScriptEnds ends.BadLine limit wanted script h before after = ⊥
+ScriptEnds (ends.BadLine line) limit wanted script h before after = ⊥
 ScriptEnds ends.Usage limit wanted script h before after = ⊥
 ScriptEnds ends.SourceFailed limit wanted script h before after = ⊥
 ScriptEnds ends.TooLarge limit wanted script h before after = ⊥
@@ -54,7 +55,8 @@ ScriptEnds ends.TooLarge limit wanted script h before after = ⊥
 abbrev pub FinishesSo : End → End → Bool → Option (List ℕ) → Option (List ℕ) → List ℕ → Type 0
 FinishesSo ends.Finished end true before after text = Writes end before after text
 FinishesSo ends.Finished end false before after text = (end ≡ ends.Finished) × (after ≡ before)
-FinishesSo ends.BadLine end wanted before after text = (end ≡ ends.BadLine) × (after ≡ before)
+FinishesSo (ends.BadLine line) end wanted before after text =
+    (end ≡ ends.BadLine line) × (after ≡ before)
 FinishesSo ends.SinkFailed end wanted before after text = (end ≡ ends.SinkFailed) × (after ≡ before)
 FinishesSo ends.NoMemory end wanted before after text = (end ≡ ends.NoMemory) × (after ≡ before)
 FinishesSo ends.Usage end wanted before after text = (end ≡ ends.Usage) × (after ≡ before)

@@ -14,7 +14,7 @@ pub use Rattle.pj_legal.specs.Statements
 pub use Rattle.pj_legal.specs.Texts
 pub use Rattle.pj_journal.specs.History
 pub use Rattle.pj_journal.specs.Log
-pub use Rattle.pj_parse.specs.Lines
+pub use Rattle.pj_script.specs.Lines
 pub use Rattle.pj_io.specs.Faults
 pub use Rattle.pj_io.specs.Transfers
 pub use Rattle.pj_words.specs.Words

@@ -14,17 +14,17 @@ use Rattle.pj_bind.specs.declared.types.Bound.TheVariants as bounds
 use Rattle.pj_legal.specs.declared.reply.Reply.{Reply}
 use Rattle.pj_bind.specs.declared.binding.BindFault.{BindFault}
 use Rattle.pj_bind.specs.declared.binding.BindFault.TheVariants as faults
-use Rattle.pj_bind.specs.Binding.{IsUnknown}
-use Rattle.pj_legal.specs.Binding.{BodyIsRefused}
-use Rattle.pj_legal.specs.Statements.{Said, whole}
+use Rattle.pj_bind.specs.Binding.{IsUnknown, table_limit}
+use Rattle.pj_legal.specs.Bodies.{IsBodyRefusal}
+use Rattle.pj_legal.specs.Statements.{Request, whole}
 use Rattle.pj_legal.specs.Forms.{entry_of, BoundForm, MayStarve, MovesOn, no_memory, history_full}
 use Rattle.pj_legal.specs.Full.{HasNext}
 use Rattle.pj_legal.specs.Run.{IsStep, course}
 use Rattle.pj_server.specs.declared.server.By.{By}
 
 -- the statement of a session and a line, its body aside
-abbrev pub said_of : By → Said
-said_of by = whole by.line by.session []
+abbrev pub request_of : By → Request
+request_of by = whole by.line by.session []
 
 -- these moves were added to the journal, whose limit stays
 pub record Adds (old new : Log) (added : List Entry) : Type 0 where
@@ -32,42 +32,42 @@ pub record Adds (old new : Log) (added : List Entry) : Type 0 where
   pub limit : new.limit ≡ old.limit
 
 -- the statement made its moves and got its reply
-abbrev pub Serves : Log → Log → Said → Reply → Type 0
-Serves old new said reply =
-    (added : List Entry) × Adds old new added × IsStep old.limit old.entries said added reply
+abbrev pub Serves : Log → Log → Request → Reply → Type 0
+Serves old new request reply =
+    (added : List Entry) × Adds old new added × IsStep old.limit old.entries request added reply
 
 -- the bound statement fits these tables
 abbrev pub BoundFits : List Table → Bound → Type 0
 BoundFits tables (bounds.Create table) =
-    IsUnknown tables table.name × (length tables < 64) × TableFits table
-BoundFits tables (bounds.Insert place rows) =
-    ((table : Table) × (slice_get tables place ≡ Some table) × (rows.kinds ≡ kinds_of table))
+    IsUnknown tables table.name × (length tables < table_limit) × TableFits table
+BoundFits tables (bounds.Insert number rows) =
+    ((table : Table) × (slice_get tables number ≡ Some table) × (rows.kinds ≡ kinds_of table))
     × HaveKinds rows.kinds rows.rows
-BoundFits tables (bounds.Select place query) =
-    (table : Table) × (slice_get tables place ≡ Some table) × FitsQuery (kinds_of table) query
+BoundFits tables (bounds.Select number query) =
+    (table : Table) × (slice_get tables number ≡ Some table) × FitsQuery (kinds_of table) query
 
 -- no move, or a first one of this sort
-abbrev pub BoundStops : (Bound → What → Type 0) → Said → Bound → List Entry → Type 0
-BoundStops sort said bound added =
-    (added ≡ []) ⊎ ((what : What) × sort bound what × (added ≡ entry_of said what ∷ []))
+abbrev pub BoundStops : (Bound → What → Type 0) → Request → Bound → List Entry → Type 0
+BoundStops sort request bound added =
+    (added ≡ []) ⊎ ((what : What) × sort bound what × (added ≡ entry_of request what ∷ []))
 
 -- these entries fill the journal
 abbrev pub Fills : Log → List Entry → Type 0
 Fills old added = length old.entries + length added ≡ old.limit
 
--- the bound statement made its moves, or stopped early: there was no memory, and the journal had room for a
+-- the bound statement made its moves, or stopped early: it was out of memory, and the journal had room for a
 -- further move; or the journal was full
-abbrev pub BoundDone : Log → Said → Bound → List Entry → Reply → Type 0
-BoundDone old said bound added reply =
-    BoundForm old.entries said bound (course old.entries added reply)
-    ⊎ ((reply ≡ no_memory) × BoundStops MayStarve said bound added
+abbrev pub BoundDone : Log → Request → Bound → List Entry → Reply → Type 0
+BoundDone old request bound added reply =
+    BoundForm old.entries request bound (course old.entries added reply)
+    ⊎ ((reply ≡ no_memory) × BoundStops MayStarve request bound added
     × (Fills old added → HasNext (moves_from old.entries added) → ⊥))
-    ⊎ ((reply ≡ history_full) × BoundStops MovesOn said bound added × Fills old added)
+    ⊎ ((reply ≡ history_full) × BoundStops MovesOn request bound added × Fills old added)
 
 -- a bound statement was done
-abbrev pub Does : Log → Log → Said → Bound → Reply → Type 0
-Does old new said bound reply =
-    (added : List Entry) × Adds old new added × BoundDone old said bound added reply
+abbrev pub Does : Log → Log → Request → Bound → Reply → Type 0
+Does old new request bound reply =
+    (added : List Entry) × Adds old new added × BoundDone old request bound added reply
 
 -- the move changes neither tables nor rows
 abbrev pub ChangesNothing : What → Type 0
@@ -77,7 +77,7 @@ ChangesNothing (whats.Looked table) = Unit {0}
 ChangesNothing (whats.Begun table) = Unit {0}
 ChangesNothing (whats.Inserted table block rows) = ⊥
 
--- the body is refused so for these tables, or there was no memory
+-- the body is refused so for these tables, or it was out of memory
 abbrev pub IsReadFault : List Table → List ℕ → BindFault → Type 0
-IsReadFault tables body (faults.Refused refusal) = BodyIsRefused tables body refusal
+IsReadFault tables body (faults.Refused refusal) = IsBodyRefusal tables body refusal
 IsReadFault tables body faults.NoMemory = Unit {0}

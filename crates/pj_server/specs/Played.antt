@@ -4,17 +4,17 @@ use Rattle.std.specs.Prelude.{length, Option, Some, None, if◌then◌else◌, c
 use Rattle.std.specs.Fmt.{decimal}
 use Rattle.std.specs.Io.KnownBytes.{Appends, Consumes, IsAtEnd}
 use Rattle.pj_io.specs.Transfers.{AppendsPart, TookTooMuch, TookAtMost}
-use Rattle.pj_parse.specs.declared.types.ScriptMode.TheVariants.{Play}
-use Rattle.pj_parse.specs.declared.types.Script.{Script}
-use Rattle.pj_parse.specs.Lines.{IsScript, IsBadLine}
+use Rattle.pj_script.specs.declared.types.ScriptMode.TheVariants.{Play}
+use Rattle.pj_script.specs.declared.types.Script.{Script}
+use Rattle.pj_script.specs.Lines.{IsScript, IsBadLine}
 use Rattle.pj_journal.specs.declared.entry.Entry.{Entry}
 use Rattle.pj_legal.specs.Statements.{Shown}
 use Rattle.pj_legal.specs.Legal.{IsPlayed}
 use Rattle.pj_legal.specs.Full.{KeepsLimit}
 use Rattle.pj_legal.specs.Run.{cut}
 use Rattle.pj_legal.specs.Texts.{as_line, replies_text, history_text}
-use Rattle.pj_server.specs.declared.end.End.{End}
-use Rattle.pj_server.specs.declared.end.End.TheVariants as ends
+use Rattle.pj_server.specs.declared.ending.End.{End}
+use Rattle.pj_server.specs.declared.ending.End.TheVariants as ends
 
 -- how many bytes a script may have
 abbrev pub script_bytes : ℕ
@@ -39,9 +39,9 @@ pub record DoesNothing (h : List Entry) (before after : Option (List ℕ)) : Typ
 abbrev pub bad_line_text : ℕ → List ℕ
 bad_line_text line = as_line (codes "bad script line " ++ decimal line)
 
--- a line of the bytes is bad, nothing was run, and its text was written
-pub record TellsBadLine (bytes : List ℕ) (h : List Entry) (before after : Option (List ℕ)) : Type 0 where
-  pub line : ℕ
+-- this line of the bytes is the first bad one, nothing was run, and its text was written
+pub record TellsBadLine (line : ℕ) (bytes : List ℕ) (h : List Entry) (before after : Option (List ℕ))
+    : Type 0 where
   pub bad : IsBadLine Play bytes line
   pub none : h ≡ []
   pub written : Appends before after (bad_line_text line)
@@ -89,7 +89,7 @@ pub record PlaysPart (limit : ℕ) (wanted : Bool) (bytes : List ℕ) (h : List 
 -- what holds of the bytes, the history and what was written, by how the run of the bytes ended
 abbrev pub RunsSo : End → ℕ → Bool → List ℕ → List Entry → Option (List ℕ) → Option (List ℕ) → Type 0
 RunsSo ends.Finished limit wanted bytes h before after = PlaysScript limit wanted bytes h before after
-RunsSo ends.BadLine limit wanted bytes h before after = TellsBadLine bytes h before after
+RunsSo (ends.BadLine line) limit wanted bytes h before after = TellsBadLine line bytes h before after
 RunsSo ends.SinkFailed limit wanted bytes h before after =
     TellsPart bytes h before after ⊎ PlaysPart limit wanted bytes h before after
 RunsSo ends.NoMemory limit wanted bytes h before after =
@@ -98,7 +98,7 @@ RunsSo ends.Usage limit wanted bytes h before after = ⊥
 RunsSo ends.SourceFailed limit wanted bytes h before after = ⊥
 RunsSo ends.TooLarge limit wanted bytes h before after = ⊥
 
--- the words are taken, all bytes were read, and their run ended so
+-- the arguments are taken, all bytes were read, and their run ended so
 pub record Reads (end : End) (wish : Option Bool) (left rest : Option (List ℕ)) (h : List Entry)
     (before after : Option (List ℕ)) : Type 0 where
   pub wanted : Bool
@@ -107,7 +107,7 @@ pub record Reads (end : End) (wish : Option Bool) (left rest : Option (List ℕ)
   pub read : IsRead left rest bytes
   pub run : RunsSo end history_entries wanted bytes h before after
 
--- the words are taken
+-- the arguments are taken
 abbrev pub IsTaken : Option Bool → Type 0
 IsTaken wish = (wanted : Bool) × (wish ≡ Some wanted)
 
@@ -125,6 +125,7 @@ EndsSo ends.NoMemory wish left rest h before after =
     (Consumes left rest [] × DoesNothing h before after)
     ⊎ (IsTaken wish × TookAtMost script_bytes left rest × DoesNothing h before after)
     ⊎ Reads ends.NoMemory wish left rest h before after
-EndsSo ends.BadLine wish left rest h before after = Reads ends.BadLine wish left rest h before after
+EndsSo (ends.BadLine line) wish left rest h before after =
+    Reads (ends.BadLine line) wish left rest h before after
 EndsSo ends.SinkFailed wish left rest h before after = Reads ends.SinkFailed wish left rest h before after
 EndsSo ends.Finished wish left rest h before after = Reads ends.Finished wish left rest h before after

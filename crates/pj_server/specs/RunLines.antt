@@ -2,14 +2,14 @@
 use Rattle.std.specs.Prelude.{◌≡◌, ℕ, List, map, take, Option}
 use Rattle.std.specs.Io.KnownBytes.{Appends}
 use Rattle.pj_io.specs.Transfers.{AppendsPart}
-use Rattle.pj_parse.specs.declared.types.ScriptLine.{ScriptLine}
+use Rattle.pj_script.specs.declared.types.ScriptLine.{ScriptLine}
 use Rattle.pj_journal.specs.Log.{Log}
 use Rattle.pj_legal.specs.declared.reply.Reply.{Reply}
-use Rattle.pj_legal.specs.Statements.{Said, statement_of, Shown}
+use Rattle.pj_legal.specs.Statements.{Request, statement_of, Shown}
 use Rattle.pj_legal.specs.Run.{Run, shown_at}
 use Rattle.pj_legal.specs.Texts.{shown_text, replies_text}
-use Rattle.pj_server.specs.declared.end.End.{End}
-use Rattle.pj_server.specs.declared.end.End.TheVariants as ends
+use Rattle.pj_server.specs.declared.ending.End.{End}
+use Rattle.pj_server.specs.declared.ending.End.TheVariants as ends
 use Rattle.pj_server.specs.Moves.{Serves}
 
 -- all of a text was written, or a proper prefix of it, by how the write ended
@@ -17,17 +17,17 @@ abbrev pub Writes : End → Option (List ℕ) → Option (List ℕ) → List ℕ
 Writes ends.Finished before after text = Appends before after text
 Writes ends.SinkFailed before after text = AppendsPart before after text
 Writes ends.NoMemory before after text = AppendsPart before after text
-Writes ends.BadLine before after text = ⊥
+Writes (ends.BadLine line) before after text = ⊥
 Writes ends.Usage before after text = ⊥
 Writes ends.SourceFailed before after text = ⊥
 Writes ends.TooLarge before after text = ⊥
 
 -- a statement was run, and its reply was written
-pub record RunsLine (end : End) (old new : Log) (names : List (List ℕ)) (said : Said)
+pub record RunsLine (end : End) (old new : Log) (names : List (List ℕ)) (request : Request)
     (before after : Option (List ℕ)) : Type 0 where
   pub reply : Reply
-  pub serves : Serves old new said reply
-  pub written : Writes end before after (shown_text names (shown_at said reply))
+  pub serves : Serves old new request reply
+  pub written : Writes end before after (shown_text names (shown_at request reply))
 
 -- the first lines were run, and their replies were written
 pub record RunsLines (end : End) (count : ℕ) (old new : Log) (names : List (List ℕ)) (lines : List ScriptLine)

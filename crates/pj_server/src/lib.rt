@@ -1,13 +1,11 @@
 //! The server: one thread that runs the statements of a script, and the top call of `projplay`.
 #![tactic(auto)]
 
-mod end;
-mod lines;
+mod ending;
 mod playing;
+mod runs;
 mod server;
 mod store;
 
-pub use playing::{Ran, play};
-
-#[cfg(test)]
-mod tests;
+pub use ending::{End, write_end};
+pub use playing::{Played, Ran, play, play_bytes};

@@ -6,28 +6,29 @@ ghost use Rattle.std.specs.List.{AllByRecursion};
 ghost use Rattle.std.specs.Io.KnownBytes.{Consumes};
 ghost use Rattle.pj_io.specs.Faults.{Rose};
 ghost use Rattle.pj_io.specs.Transfers.{TookTooMuch, TookAtMost};
-ghost use Rattle.pj_parse.specs.declared.types.ScriptMode.TheVariants.{Play};
-ghost use Rattle.pj_parse.specs.declared.types.Script.{Script};
-ghost use Rattle.pj_parse.specs.Lines.{IsScript, IsBadLine};
+ghost use Rattle.pj_script.specs.declared.types.ScriptMode.TheVariants.{Play};
+ghost use Rattle.pj_script.specs.declared.types.Script.{Script};
+ghost use Rattle.pj_script.specs.Lines.{IsScript, IsBadLine};
 ghost use Rattle.pj_legal.specs.Statements.{statements};
 ghost use Rattle.pj_legal.specs.Shares.{Rise};
-ghost use Rattle.pj_legal.specs.Laws.{lines_said};
+ghost use Rattle.pj_legal.specs.Laws.{request_lines};
 ghost use Rattle.pj_legal.specs.Texts.{history_text as text_of_history};
 ghost use Rattle.pj_words.specs.Words.{wish_of};
 ghost use Rattle.pj_server.specs.Played.{script_bytes, history_entries, DoesNothing};
 ghost use Rattle.pj_server.specs.Played.{RunsSo, Reads, EndsSo, bad_line_text};
 ghost use Rattle.pj_server.specs.Ends.{TellsLine, ScriptEnds, FinishesSo};
-ghost use Rattle.pj_server.specs.declared.end.End.TheVariants as ends;
+ghost use Rattle.pj_server.specs.Status.{status_of};
+ghost use Rattle.pj_server.specs.declared.ending.End.TheVariants as ends;
 
-use crate::end::End;
-use crate::lines::{run_lines, write_text};
+use crate::ending::End;
+use crate::runs::{run_lines, write_text};
 use crate::server::Server;
 use itoa::Buffer;
 use pj_io::{ReadFault, Sink, Source, read_all};
 use pj_journal::Journal;
 use pj_legal::{cut_runs, history_text, runs_are_legal};
-use pj_parse::types::{Script, ScriptMode};
-use pj_parse::{ScriptFault, lines_rise, no_script_with_a_bad_line, script};
+use pj_script::types::{Script, ScriptMode};
+use pj_script::{ScriptFault, lines_rise, no_script_with_a_bad_line, script};
 use pj_value::NoMemory;
 use pj_words::{WordsFault, wants_history};
 use std::alloc::Global;
@@ -43,34 +44,38 @@ const HISTORY: u32 = 4_294_967_295;
 pub struct Ran {
     /// The status that the program ends with.
     pub status: u8,
+    /// How it ended: the cause of the status, with the number of a bad line.
+    pub end: End,
     /// The one history that was kept.
     pub history: Journal,
 }
 
-/// An end, and the history that was kept.
+/// How the run of some bytes ended, and what it kept.
 #[derive(Drop)]
-pub(crate) struct Played {
-    pub(crate) end: End,
-    pub(crate) history: Journal,
+pub struct Played {
+    /// How it ended.
+    pub end: End,
+    /// The one history that was kept.
+    pub history: Journal,
 }
 
 /// Reads a script of at most 16,777,216 bytes from the source, runs its lines in their order on this thread,
 /// and writes the reply of each as it comes, and, with the flag `--history`, the text of the history behind
 /// them.
 ///
-/// The words are the program's name and then nothing or that one flag, as `wants_history` reads them. The
-/// statuses are 0 where the script was run and all was written, 2 for words that aren't taken, 4 where the
-/// source failed, 7 for too many bytes, 3 for a bad line, 5 where the sink failed, and 6 for want of memory
-/// of the call itself.
+/// The arguments are the program's name and then nothing or that one flag, as `wants_history` reads them. The
+/// statuses are 0 where the script was run and all was written, 2 for arguments that aren't taken, 4 where the
+/// source failed, 7 for too many bytes, 3 for a bad line, 5 where the sink failed, and 6 where the call itself
+/// was out of memory.
 pub fn play<R: Source, W: Sink>(
     alloc: Global,
-    words: &[String],
+    arguments: &[String],
     source: &mut R,
     sink: &mut W,
 ) -> Ran
-    // Nothing but the words decides this, where there is memory to read them.
-    ensures usage { result.status ≡ 2 → wish_of (map string_bytes words.now) ≡ None }
-    ensures refused { wish_of (map string_bytes words.now) ≡ None
+    // Nothing but the arguments decides this, where there is memory to read them.
+    ensures usage { result.status ≡ 2 → wish_of (map string_bytes arguments.now) ≡ None }
+    ensures refused { wish_of (map string_bytes arguments.now) ≡ None
         → (result.status ≡ 2) ⊎ (result.status ≡ 6) }
     ensures unread { result.status ≡ 2 → Consumes (R.left source.old) (R.left source.new) [] }
 
@@ -79,31 +84,32 @@ pub fn play<R: Source, W: Sink>(
     ensures not_too_large { (result.status ≡ 7 → ⊥)
         → TookAtMost script_bytes (R.left source.old) (R.left source.new) }
 
-    // The source's bytes have a bad line, and the first such was told.
+    // The source's bytes have a bad line, and the first such was told, whose number the end has.
     ensures bad_line { result.status ≡ 3
-        → Reads ends.BadLine (wish_of (map string_bytes words.now)) (R.left source.old)
+        → (line : ℕ) × (result.end ≡ End.BadLine line)
+        × Reads (ends.BadLine line) (wish_of (map string_bytes arguments.now)) (R.left source.old)
         (R.left source.new)
         result.history.entries (W.taken sink.old) (W.taken sink.new) }
 
     // The headline: the source's bytes spell a script, the history is legal for it with these replies, and
     // their text was written.
     ensures done { result.status ≡ 0
-        → Reads ends.Finished (wish_of (map string_bytes words.now)) (R.left source.old) (R.left source.new)
+        → Reads ends.Finished (wish_of (map string_bytes arguments.now)) (R.left source.old) (R.left source.new)
         result.history.entries (W.taken sink.old) (W.taken sink.new) }
 
     // The history is legal for the script cut after some lines, and a proper prefix of the text of that was
     // written; or a proper prefix of the text of a bad line was.
     ensures sink_failed { result.status ≡ 5 → Rose (W.faults sink.old) (W.faults sink.new) }
     ensures stopped { result.status ≡ 5
-        → Reads ends.SinkFailed (wish_of (map string_bytes words.now)) (R.left source.old)
+        → Reads ends.SinkFailed (wish_of (map string_bytes arguments.now)) (R.left source.old)
         (R.left source.new)
         result.history.entries (W.taken sink.old) (W.taken sink.new) }
     ensures starved { result.status ≡ 6
-        → EndsSo ends.NoMemory (wish_of (map string_bytes words.now)) (R.left source.old)
+        → EndsSo ends.NoMemory (wish_of (map string_bytes arguments.now)) (R.left source.old)
         (R.left source.new)
         result.history.entries (W.taken sink.old) (W.taken sink.new) }
 
-    // Want of memory doesn't stand in for a source or a sink that failed.
+    // Out of memory doesn't stand in for a source or a sink that failed.
     ensures source_blamed { R.faults source.old < R.faults source.new → result.status ≡ 4 }
     ensures sink_blamed { W.faults sink.old < W.faults sink.new → result.status ≡ 5 }
 
@@ -113,11 +119,11 @@ pub fn play<R: Source, W: Sink>(
     ensures quiet { (result.status ≡ 2) ⊎ (result.status ≡ 4) ⊎ (result.status ≡ 7)
         → DoesNothing result.history.entries (W.taken sink.old) (W.taken sink.new) }
 
-    // A script of the grammar is run to its end, unless there is no memory or the source or the sink fails.
+    // A script of the grammar is run to its end, unless it is out of memory or the source or the sink fails.
     ensures complete { (bytes : List ℕ) (script : Script) → R.left source.old ≡ Some bytes
         → length bytes ≤ script_bytes
         → IsScript Play bytes script
-        → (wish_of (map string_bytes words.now) ≡ None → ⊥)
+        → (wish_of (map string_bytes arguments.now) ≡ None → ⊥)
         → (Rose (R.faults source.old) (R.faults source.new) → ⊥)
         → (Rose (W.faults sink.old) (W.faults sink.new) → ⊥)
         → (result.status ≡ 0) ⊎ (result.status ≡ 6) }
@@ -126,31 +132,33 @@ pub fn play<R: Source, W: Sink>(
     ensures bad_line_told { (bytes : List ℕ) (line : ℕ) → R.left source.old ≡ Some bytes
         → length bytes ≤ script_bytes
         → IsBadLine Play bytes line
-        → (wish_of (map string_bytes words.now) ≡ None → ⊥)
+        → (wish_of (map string_bytes arguments.now) ≡ None → ⊥)
         → (Rose (R.faults source.old) (R.faults source.new) → ⊥)
         → (Rose (W.faults sink.old) (W.faults sink.new) → ⊥)
         → (result.status ≡ 3) ⊎ (result.status ≡ 6) }
 
+    ensures end { result.status ≡ status_of result.end }
     ensures statuses { Contains (0 ∷ 2 ∷ 3 ∷ 4 ∷ 5 ∷ 6 ∷ 7 ∷ []) result.status }
     ensures limit { result.history.limit ≡ history_entries }
     ensures source_later { R.faults source.old ≤ R.faults source.new }
     ensures sink_later { W.faults sink.old ≤ W.faults sink.new }
 {
     no_script_with_a_bad_line();
-    let Played { end, history } = play_words(alloc, words, source, sink);
+    let Played { end, history } = play_arguments(alloc, arguments, source, sink);
     Ran {
         status: end.status(),
+        end,
         history,
     }
 }
 
-fn play_words<R: Source, W: Sink>(
+fn play_arguments<R: Source, W: Sink>(
     alloc: Global,
-    words: &[String],
+    arguments: &[String],
     source: &mut R,
     sink: &mut W,
 ) -> Played
-    ensures ends { EndsSo result.end (wish_of (map string_bytes words.now)) (R.left source.old)
+    ensures ends { EndsSo result.end (wish_of (map string_bytes arguments.now)) (R.left source.old)
         (R.left source.new)
         result.history.entries (W.taken sink.old) (W.taken sink.new) }
     ensures source_failed { result.end ≡ End.SourceFailed → Rose (R.faults source.old) (R.faults source.new) }
@@ -162,7 +170,7 @@ fn play_words<R: Source, W: Sink>(
     ensures sink_later { W.faults sink.old ≤ W.faults sink.new }
     ensures limit { result.history.limit ≡ HISTORY }
 {
-    let wanted = match wants_history(alloc, words) {
+    let wanted = match wants_history(alloc, arguments) {
         Ok(wanted) => wanted,
         Err(WordsFault::Usage) => return nothing(alloc, End::Usage),
         Err(WordsFault::NoMemory) => return nothing(alloc, End::NoMemory),
@@ -187,7 +195,9 @@ fn nothing(alloc: Global, end: End) -> Played
 }
 
 /// Runs the script that the bytes spell, with a journal of at most `limit` entries, or writes its bad line.
-pub(crate) fn play_bytes<W: Sink>(
+/// `play` calls it with its own limit, and with the bytes that it read.
+#[tactic(auto, using(crate::proofs::PlayLemmas::runs_bad_line))]
+pub fn play_bytes<W: Sink>(
     alloc: Global,
     limit: u32,
     wanted: bool,
@@ -228,7 +238,7 @@ fn write_bad_line<W: Sink>(alloc: Global, line: u32, sink: &mut W) -> End
 {
     match bad_line(alloc, line) {
         Ok(text) => match write_text(sink, text.as_slice()) {
-            End::Finished => End::BadLine,
+            End::Finished => End::BadLine(line),
             end => end,
         },
         Err(NoMemory) => End::NoMemory,
@@ -255,7 +265,7 @@ fn play_script<W: Sink>(
     script: &Script,
     sink: &mut W,
 ) -> Played
-    requires rise { Rise 0 (lines_said (statements script.now)) }
+    requires rise { Rise 0 (request_lines (statements script.now)) }
     requires named { AllByRecursion (λ line. line.name < length script.now.names) script.now.lines }
     ensures ends { ScriptEnds result.end limit wanted script.now result.history.entries (W.taken sink.old)
         (W.taken sink.new) }

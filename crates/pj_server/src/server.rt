@@ -6,18 +6,18 @@ ghost use Rattle.pj_journal.specs.History.{catalog, IsRegular, WhatFits};
 ghost use Rattle.pj_expr.specs.Tables.{kinds_of, TableFits};
 ghost use Rattle.pj_journal.specs.Log.{empty_log, IsFull};
 ghost use Rattle.pj_bind.specs.Binding.{IsUnknown};
-ghost use Rattle.pj_legal.specs.Binding.{BodyBinds};
+ghost use Rattle.pj_legal.specs.Bodies.{BodyBinds};
 ghost use Rattle.pj_legal.specs.Statements.{whole};
 ghost use Rattle.pj_legal.specs.Forms.{entry_of};
 
 use crate::store::{Store, append};
-use pj_bind::bound_tables_fit;
-use pj_exec::select;
+use pj_bind::types::{Bound, LimitName, Refusal};
+use pj_bind::{BindFault, bind, bound_tables_fit};
 use pj_expr::{Query, Table};
+use pj_group::select;
 use pj_journal::types::Catalog;
 use pj_journal::{Actor, Entry, Journal, MoveFault, What};
-use pj_legal::types::{Bound, LimitName, Refusal};
-use pj_legal::{BindFault, Parsed, Reply, bind, history_refuses_no_body, read_statement};
+use pj_legal::{Parsed, Reply, history_refuses_no_body, read_statement};
 use pj_value::{NoMemory, Rows};
 use std::alloc::Global;
 use std::marker::Model;
@@ -51,7 +51,7 @@ impl Model for Server {
 
 impl Server {
     ghost use Rattle.pj_server.specs.Moves.{
-      said_of,
+      request_of,
       Adds,
       Serves,
       BoundFits,
@@ -150,7 +150,7 @@ impl Server {
         requires room { 1 ≤ self.old.spare }
         requires below { length self.old.entries < self.old.limit }
         requires fits { BoundFits (catalog self.old.entries) bound }
-        ensures { Does self.old self.new (said_of by) bound result }
+        ensures { Does self.old self.new (request_of by) bound result }
     {
         match bound {
             Bound::Create(table) => match self.create(alloc, by, table) {
@@ -167,7 +167,7 @@ impl Server {
         requires room { 1 ≤ self.old.spare }
         requires nothing { ChangesNothing what }
         requires fits { WhatFits self.old.entries what }
-        ensures { Adds self.old self.new (entry_of (said_of by) what ∷ []) }
+        ensures { Adds self.old self.new (entry_of (request_of by) what ∷ []) }
     {
         self.journal.add(Entry {
             actor: Actor::Session(by.session),
@@ -182,7 +182,7 @@ impl Server {
         requires few { length (catalog self.old.entries) < 64 }
         requires table { TableFits table }
         ensures done { OnOk result
-            (Adds self.old self.new (entry_of (said_of by) (What.Created table) ∷ [])) }
+            (Adds self.old self.new (entry_of (request_of by) (What.Created table) ∷ [])) }
         ensures same { OnErr result (Adds self.old self.new []) }
     {
         let held = table.duplicate(alloc)?;
@@ -203,7 +203,7 @@ impl Server {
         requires room { 1 ≤ self.old.spare }
         requires below { length self.old.entries < self.old.limit }
         requires fits { BoundFits (catalog self.old.entries) (Bound.Insert table rows) }
-        ensures { Does self.old self.new (said_of by) (Bound.Insert table rows) result }
+        ensures { Does self.old self.new (request_of by) (Bound.Insert table rows) result }
     {
         self.note(by, What::Begun { table });
         match self.reserve() {
@@ -223,14 +223,14 @@ impl Server {
         requires fits { BoundFits (catalog self.old.entries) (Bound.Insert table rows) }
         ensures done { OnOk result
             ((block : _)
-            × Adds self.old self.new (entry_of (said_of by) (What.Inserted table block rows) ∷ [])) }
+            × Adds self.old self.new (entry_of (request_of by) (What.Inserted table block rows) ∷ [])) }
         ensures same { OnErr result (Adds self.old self.new []) }
     {
-        let place = table as usize;
+        let number = table as usize;
         // The call says that there are fewer than 2^32 entries, so that the next number fits its type.
         let _entries = self.journal.entries();
-        let block = self.stores[place].next;
-        append(&mut self.stores, place, &rows)?;
+        let block = self.stores[number].next;
+        append(&mut self.stores, number, &rows)?;
         self.journal.add(Entry {
             actor: Actor::Session(by.session),
             line: by.line,
@@ -243,7 +243,7 @@ impl Server {
         requires room { 1 ≤ self.old.spare }
         requires below { length self.old.entries < self.old.limit }
         requires fits { BoundFits (catalog self.old.entries) (Bound.Select table query.now) }
-        ensures { Does self.old self.new (said_of by) (Bound.Select table query.now) result }
+        ensures { Does self.old self.new (request_of by) (Bound.Select table query.now) result }
     {
         match select(alloc, query, &self.stores[table as usize].rows) {
             Ok(rows) => {

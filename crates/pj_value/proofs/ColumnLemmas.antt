@@ -24,7 +24,7 @@ pub AreOfKind-kinded : (held : Items) → AreOfKind (kinded_values held).kind (k
 AreOfKind-kinded (items.Num numbers) = AreOfKind-numbers numbers.items
 AreOfKind-kinded (items.Text texts) = AreOfKind-texts texts.items
 
--- the values at some places, each the value of what stands there
+-- the values at some indexes, each the value of what stands there
 pub values_at-map : {X : Type 0} (f : X → Value) (xs : List X) (d : X) (ps : List ℕ)
     → All (λ at. at < length xs) ps → map f (map (λ at. get_or xs at d) ps) ≡ values_at (map f xs) ps
 values_at-map f xs d [] a = refl

@@ -17,7 +17,7 @@ use Rattle.pj_value.specs.declared.value.Value.TheVariants as values
 use Rattle.pj_value.specs.Columns.{KindedValues, no_values, AreOfKind, values_at, kinds_of, values_of, row_at}
 use Rattle.pj_value.specs.Columns.{rows_of}
 use Rattle.pj_value.specs.Rows.{rows_at, value_in, column_of, rows_in}
-use Rattle.pj_value.specs.Layout.{AreColumnsOf, gathered, truncated, places_cmp, is_before}
+use Rattle.pj_value.specs.Layout.{AreColumnsOf, gathered, truncated, indexes_cmp, is_before}
 use Rattle.pj_value.specs.Order.{IsSortedBy}
 use Rattle.pj_value.proofs.OrderLemmas.{value_in-row_at, key_total, rising_far, stable_far}
 use Rattle.pj_value.proofs.RowsLemmas.{length-rows_of, len_at, kind_of-in}
@@ -34,7 +34,7 @@ AreOfKind-values_at k vs (at ∷ ps) a p = (
       (All-tail (λ at. at < length vs) at ps p),
 )
 
--- as many values as places in each
+-- as many values as indexes in each
 pub AreColumnsOf-gathered : (n : ℕ) (ks : List Kind) (cs : List KindedValues) (ps : List ℕ)
     → AreColumnsOf n ks cs → All (λ at. at < n) ps → AreColumnsOf (length ps) ks (map (gathered ps) cs)
 AreColumnsOf-gathered n [] [] ps a p = tt
@@ -49,7 +49,7 @@ AreColumnsOf-gathered n (k ∷ ks) (c ∷ cs) ps a p = (
   AreColumnsOf-gathered n ks cs ps a.1 p,
 )
 
--- the places are in each column
+-- the indexes are in each column
 pub All-in_columns : (n : ℕ) (ks : List Kind) (cs : List KindedValues) (ps : List ℕ) → AreColumnsOf n ks cs
     → All (λ at. at < n) ps → All (λ c. All (λ at. at < length c.values) ps) cs
 All-in_columns n ks cs ps a p = λ i d l. in_one ks cs i d a l
@@ -61,7 +61,7 @@ All-in_columns n ks cs ps a p = λ i d l. in_one ks cs i d a l
     in_one (k ∷ ks) (c ∷ cs) zero d a l = rw a.0.len_is p
     in_one (k ∷ ks) (c ∷ cs) (suc i) d a l = in_one ks cs i d a.1 (omega arith)
 
--- a row of gathered columns is the row that stood at its place
+-- a row of gathered columns is the row that stood at its index
 row_at-gathered : (cs : List KindedValues) (ps : List ℕ) (i : ℕ) → i < length ps
     → row_at (values_of (map (gathered ps) cs)) i ≡ row_at (values_of cs) (get_or ps i 0)
 row_at-gathered [] ps i l = refl
@@ -75,7 +75,7 @@ row_of-place : (cs : List KindedValues) (n at : ℕ) → at < n
     → get_or (rows_of (values_of cs) n) at [] ≡ row_at (values_of cs) at
 row_of-place cs n at l = get_or-map-range_with_len (row_at (values_of cs)) 0 n at at [] l (omega arith)
 
--- the rows of gathered columns are those at the places
+-- the rows of gathered columns are those at the indexes
 pub rows_of-gathered : (cs : List KindedValues) (n : ℕ) (ps : List ℕ) → All (λ at. at < n) ps
     → rows_of (values_of (map (gathered ps) cs)) (length ps) ≡ rows_at (rows_of (values_of cs) n) ps
 rows_of-gathered cs n ps p =
@@ -196,7 +196,7 @@ rows_in-first cs c l e =
 
 -- ---- rows that are sorted
 
--- each place is that of a row
+-- each index is that of a row
 pub All-below : (n : ℕ) (ps : List ℕ) → sorted.IsPermutation (range_with_len 0 n) ps → All (λ at. at < n) ps
 All-below n ps p = All-permutation (λ at. at < n) (range_with_len 0 n) ps p each
   where
@@ -205,26 +205,26 @@ All-below n ps p = All-permutation (λ at. at < n) (range_with_len 0 n) ps p eac
         let below : k < n = rw length-range_with_len at l in
         rw (get_or-range_with_len 0 n k d below) (omega arith)
 
-pub length-places : (n : ℕ) (ps : List ℕ) → sorted.IsPermutation (range_with_len 0 n) ps → length ps ≡ n
-length-places n ps p = length_permutation (range_with_len 0 n) ps p ∙ length-range_with_len 0 n
+pub length-indexes : (n : ℕ) (ps : List ℕ) → sorted.IsPermutation (range_with_len 0 n) ps → length ps ≡ n
+length-indexes n ps p = length_permutation (range_with_len 0 n) ps p ∙ length-range_with_len 0 n
 
--- rows at sorted places are sorted
-pub IsSortedBy-places : (cs : List KindedValues) (keys : List ℕ) (n : ℕ) (ps : List ℕ)
+-- rows at sorted indexes are sorted
+pub IsSortedBy-indexes : (cs : List KindedValues) (keys : List ℕ) (n : ℕ) (ps : List ℕ)
     → (out : List (List Value)) → sorted.IsPermutation (range_with_len 0 n) ps
     → sorted.IsSortedBy (is_before cs keys) ps
     → sorted.IsStableBy (is_before cs keys) (range_with_len 0 n) ps
     → out ≡ rows_at (rows_of (values_of cs) n) ps → IsSortedBy keys (rows_of (values_of cs) n) out
-IsSortedBy-places cs keys n ps out p up stable e = record {
-  places = ps;
+IsSortedBy-indexes cs keys n ps out p up stable e = record {
+  indexes = ps;
   each_once = rw length-rows_of p;
   rows_are = e;
   rising = λ i j l m. rw (at i (omega arith), at j m)
-      (rising_far (places_cmp cs keys) ranks ps up i j l (in_places j m));
-  stable = λ i j l m f. stable_far (places_cmp cs keys) ranks n ps up stable i j l (in_places j m)
+      (rising_far (indexes_cmp cs keys) ranks ps up i j l (in_places j m));
+  stable = λ i j l m f. stable_far (indexes_cmp cs keys) ranks n ps up stable i j l (in_places j m)
       (rw (at i (omega arith), at j m) at f);
 }
   where
-    ranks : IsTotalOrder (places_cmp cs keys)
+    ranks : IsTotalOrder (indexes_cmp cs keys)
     ranks = key_total (row_at (values_of cs)) keys
 
     in_places : (i : ℕ) → i < length out → i < length ps

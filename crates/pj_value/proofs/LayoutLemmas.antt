@@ -53,7 +53,7 @@ joined-take_more held cs vss i c vs h l m e f =
 pub length-same_kinds : (cs ds : List KindedValues) → kinds_of cs ≡ kinds_of ds → length cs ≡ length ds
 length-same_kinds cs ds k = sym (length-map cs _) ∙ ap length k ∙ length-map ds _
 
--- columns of the same kinds have the same kind at a place
+-- columns of the same kinds have the same kind at an index
 pub kind_at : (cs ds : List KindedValues) (i : ℕ) (c d : KindedValues) → kinds_of cs ≡ kinds_of ds
     → i < length cs → c ≡ get_or cs i c → d ≡ get_or ds i d → c.kind ≡ d.kind
 kind_at [] ds i c d k l e f = absurd (omega arith)

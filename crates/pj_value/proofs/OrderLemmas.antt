@@ -110,9 +110,9 @@ then-decided Less s n = refl
 then-decided Equal s n = absurd (n refl)
 then-decided Greater s n = refl
 
--- ---- places that are sorted by an order
+-- ---- indexes that are sorted by an order
 
--- one place more
+-- one index more
 pub range-more : (n : ℕ) → range_with_len 0 (n + 1) ≡ range_with_len 0 n ++ n ∷ []
 range-more n =
     sym (map-id (range_with_len 0 (n + 1))) ∙ map-range_with_len_more (λ x. x) 0 n n (omega arith)
@@ -123,7 +123,7 @@ turned Less e = (cc)
 turned Equal e = refl
 turned Greater e = refl
 
--- no place stands behind one that is after it
+-- no index stands behind one that is after it
 pub rising_far : (R : ℕ → ℕ → Ordering) → IsTotalOrder R → (ps : List ℕ)
     → IsSortedBy (λ x y. is_lt (R x y)) ps → (i j : ℕ) → i ≤ j → j < length ps
     → is_gt (R (get_or ps i 0) (get_or ps j 0)) ≡ false
@@ -132,7 +132,7 @@ rising_far R o ps up i j l m =
     ∙ turned (R (get_or ps j 0) (get_or ps i 0)) (sorted_far (λ x y. is_lt (R x y)) (ranks_by o (λ x. x))
     ps up i j 0 l m)
 
--- an order that goes on by size where places are equal in it
+-- an order that goes on by size where indexes are equal in it
 by_size : (r s : Ordering) → is_lt r ≡ false → (r ≡ Equal → is_lt s ≡ false)
     → is_lt (ordering_then r s) ≡ false
 by_size Less s e f = e
@@ -170,7 +170,7 @@ not_below x y e = from (nat_cmp y x) (ranked y x (nat_cmp y x) refl) e
     from Equal h e = omega arith
     from Greater h e = omega arith
 
--- places that are equal in the order stand by size
+-- indexes that are equal in the order stand by size
 pub stable_far : (R : ℕ → ℕ → Ordering) → IsTotalOrder R → (n : ℕ) (ps : List ℕ)
     → IsSortedBy (λ x y. is_lt (R x y)) ps → IsStableBy (λ x y. is_lt (R x y)) (range_with_len 0 n) ps
     → (i j : ℕ) → i ≤ j → j < length ps → R (get_or ps i 0) (get_or ps j 0) ≡ Equal

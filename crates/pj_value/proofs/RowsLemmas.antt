@@ -1,6 +1,6 @@
 -- Facts about the rows that columns hold.
 use Rattle.std.proofs.Common.{◌≡◌, ℕ, zero, suc, ◌+◌, ◌<◌, ◌≤◌, List, [], ◌∷◌, ◌++◌, length, get_or, map}
-use Rattle.std.proofs.Common.{take, refl, ap, sym, ◌∙◌, arith, append_assoc, append-nil}
+use Rattle.std.proofs.Common.{take, replicate, refl, ap, sym, ◌∙◌, arith, append_assoc, append-nil}
 use Rattle.std.specs.List.{AllZip, range_with_len}
 use Rattle.std.proofs.lemmas.List.{get_or_append_left, get_or-append-add, take_at, length-append}
 use Rattle.std.proofs.lemmas.List.FromFn.{map-range_with_len_more, length-map-range_with_len}
@@ -26,6 +26,14 @@ rows_of-suc : (xss : List (List Value)) (n : ℕ) → rows_of xss (suc n) ≡ ro
 rows_of-suc xss n =
     let e : suc n ≡ n + 1 = omega arith in
     ap (λ k. rows_of xss k) e ∙ map-range_with_len_more (row_at xss) 0 n n (omega arith)
+
+-- of no columns each row is empty
+pub rows_of-none : (n : ℕ) → rows_of [] n ≡ replicate n []
+rows_of-none n = from 0 n
+  where
+    from : (a n : ℕ) → map (row_at []) (range_with_len a n) ≡ replicate n []
+    from a zero = refl
+    from a (suc n) = ap (λ (rows : List (List Value)). [] ∷ rows) (from (a + 1) n)
 
 -- the value of a row in a column
 pub value_at-rows_of : (cs : List KindedValues) (n row column : ℕ) (c : KindedValues) → row < n

@@ -163,7 +163,7 @@ one_bad_escape w i j a b =
 
 -- ---- a text, or a bad escape
 
--- a text, or the place of a bad escape
+-- a text, or the offset of a bad escape
 abbrev Outcome : List ℕ → Type 0
 Outcome w = ((text : List ℕ) × Spells w text) ⊎ ((at : ℕ) × IsBadEscape w at)
 

@@ -1,5 +1,5 @@
 -- What an aggregate function makes of a list of values (docs/MODEL.md, "Aggregates").
-use Rattle.std.specs.Prelude.{ℕ, ◌+◌, ◌%◌, ◌^◌, Bool, true, false, ◌||◌, List, [], ◌∷◌, length, map, sum}
+use Rattle.std.specs.Prelude.{ℕ, ◌%◌, ◌^◌, Bool, false, ◌||◌, List, [], ◌∷◌, length, map, sum}
 use Rattle.std.specs.Prelude.{if◌then◌else◌, fold}
 use Rattle.std.specs.Ordering.{is_lt, is_eq}
 use Rattle.pj_value.specs.declared.value.Kind.{Kind}

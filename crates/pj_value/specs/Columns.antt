@@ -28,9 +28,9 @@ column_of_texts texts = record { kind = kinds.Text; values = map (λ t. values.T
 abbrev pub AreOfKind : Kind → List Value → Type 0
 AreOfKind kind values = AllByRecursion (λ v. kind_of v ≡ kind) values
 
--- the values at these places, in this order, and the number 0 where there is none
+-- the values at these indexes, in this order, and the number 0 where there is none
 abbrev pub values_at : List Value → List ℕ → List Value
-values_at vs places = map (λ at. slice_index_or vs at (values.Num 0)) places
+values_at vs indexes = map (λ at. slice_index_or vs at (values.Num 0)) indexes
 
 -- the kind of each column
 abbrev pub kinds_of : List KindedValues → List Kind
@@ -40,7 +40,7 @@ kinds_of columns = map (λ c. c.kind) columns
 abbrev pub values_of : List KindedValues → List (List Value)
 values_of columns = map (λ c. c.values) columns
 
--- the row at a place, of the values of each column
+-- the row at an index, of the values of each column
 abbrev pub row_at : List (List Value) → ℕ → List Value
 row_at columns at = map (λ vs. slice_index_or vs at (values.Num 0)) columns
 

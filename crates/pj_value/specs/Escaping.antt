@@ -1,7 +1,7 @@
--- How a text is written in a line of output (docs/FORMATS.md, "Values in rows"), and how one is read.
+-- How a text is written in a text line of output (docs/FORMATS.md, "Values in rows"), and how one is read.
 use Rattle.std.specs.Prelude.{◌≡◌, ◌≢◌, ℕ, ◌+◌, ◌<◌, List, [], ◌∷◌, ◌==◌, if◌then◌else◌, codes, length, take}
 use Rattle.std.specs.Prelude.{drop, slice_index}
-use Rattle.std.specs.Prelude.{Option, Some, None}
+use Rattle.std.specs.Prelude.{Bool, Option, Some, None}
 use Rattle.std.specs.List.{AllZip, concat, flat_map}
 
 -- a backslash, a tab, a line feed, a carriage return and a zero byte are written with a backslash
@@ -13,6 +13,10 @@ escaped_byte b =
     else (if b == 10 then codes "\\n"
     else (if b == 13 then codes "\\r"
     else (if b == 0 then codes "\\0" else b ∷ []))))
+
+-- whether a byte is written as it is
+abbrev pub is_plain : ℕ → Bool
+is_plain b = length (escaped_byte b) == 1
 
 -- a text as it is written
 abbrev pub escaped : List ℕ → List ℕ
@@ -44,7 +48,7 @@ abbrev pub HasNoLetter : List ℕ → Type 0
 HasNoLetter [] = Unit {0}
 HasNoLetter (l ∷ ls) = meaning l ≡ None
 
--- what stands before this place spells a text, and at it is a backslash with no letter behind it
+-- what stands before this offset spells a text, and at it is a backslash with no letter behind it
 pub record IsBadEscape (written : List ℕ) (at : ℕ) : Type 0 where
   pub inside : at < length written
   pub before : (text : List ℕ) × Spells (take at written) text

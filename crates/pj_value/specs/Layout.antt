@@ -39,21 +39,21 @@ joined (c ∷ cs) (vs ∷ vss) = record c { values = c.values ++ vs } ∷ joined
 abbrev pub truncated : ℕ → KindedValues → KindedValues
 truncated len column = record column { values = take len column.values }
 
--- a column with its values at these places
+-- a column with its values at these indexes
 abbrev pub gathered : List ℕ → KindedValues → KindedValues
-gathered places column = record column { values = values_at column.values places }
+gathered indexes column = record column { values = values_at column.values indexes }
 
--- the places of so many rows
-abbrev pub places_of : ℕ → List ℕ
-places_of len = range_with_len 0 len
+-- the indexes of so many rows
+abbrev pub indexes_of : ℕ → List ℕ
+indexes_of len = range_with_len 0 len
 
--- how the rows at two places stand to each other by these columns
-abbrev pub places_cmp : List KindedValues → List ℕ → ℕ → ℕ → Ordering
-places_cmp columns keys a b = key_cmp keys (row_at (values_of columns) a) (row_at (values_of columns) b)
+-- how the rows at two indexes stand to each other by these columns
+abbrev pub indexes_cmp : List KindedValues → List ℕ → ℕ → ℕ → Ordering
+indexes_cmp columns keys a b = key_cmp keys (row_at (values_of columns) a) (row_at (values_of columns) b)
 
--- whether the row at a place stands before that at another
+-- whether the row at an index stands before that at another
 abbrev pub is_before : List KindedValues → List ℕ → ℕ → ℕ → Bool
-is_before columns keys a b = is_lt (places_cmp columns keys a b)
+is_before columns keys a b = is_lt (indexes_cmp columns keys a b)
 
 -- the columns of a row alone
 abbrev pub columns_of_row : List Value → List (List Value)

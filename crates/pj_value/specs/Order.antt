@@ -32,11 +32,11 @@ key_cmp keys a b = row_cmp (key_of keys a) (key_of keys b)
 -- the same rows in the order of these columns, and rows that are equal in them in the order that they had
 pub record IsSortedBy (keys : List ℕ) (rows out : List (List Value)) : Type 0 where
   -- where each row of `out` stands in `rows`
-  pub places : List ℕ
-  pub each_once : IsPermutation (range_with_len 0 (length rows)) places
-  pub rows_are : out ≡ rows_at rows places
+  pub indexes : List ℕ
+  pub each_once : IsPermutation (range_with_len 0 (length rows)) indexes
+  pub rows_are : out ≡ rows_at rows indexes
   pub rising : (i j : ℕ) → i ≤ j → j < length out
       → is_gt (key_cmp keys (slice_index_or out i []) (slice_index_or out j [])) ≡ false
   pub stable : (i j : ℕ) → i ≤ j → j < length out
       → key_cmp keys (slice_index_or out i []) (slice_index_or out j []) ≡ Equal
-      → slice_index places i ≤ slice_index places j
+      → slice_index indexes i ≤ slice_index indexes j

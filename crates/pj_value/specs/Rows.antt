@@ -1,5 +1,5 @@
 -- Rows with the kinds of their columns (docs/MODEL.md, "Values").
-use Rattle.std.specs.Prelude.{◌≡◌, ℕ, List, [], length, map, slice_index_or}
+use Rattle.std.specs.Prelude.{◌≡◌, ℕ, List, [], length, map, replicate, slice_index_or}
 use Rattle.std.specs.List.{AllByRecursion}
 use Rattle.pj_value.specs.declared.value.Kind.{Kind}
 use Rattle.pj_value.specs.declared.value.Kind.TheVariants as kinds
@@ -17,6 +17,10 @@ pub record KindedRows : Type 0 where
 abbrev pub no_rows : List Kind → KindedRows
 no_rows kinds = record { kinds = kinds; rows = [] }
 
+-- so many rows of no columns
+abbrev pub rows_of_no_columns : ℕ → KindedRows
+rows_of_no_columns len = record { kinds = []; rows = replicate len [] }
+
 -- the value of a row in a column, and the number 0 where there is none
 abbrev pub value_at : List (List Value) → ℕ → ℕ → Value
 value_at rows row column = slice_index_or (slice_index_or rows row []) column (values.Num 0)
@@ -25,9 +29,9 @@ value_at rows row column = slice_index_or (slice_index_or rows row []) column (v
 abbrev pub value_in : List Value → ℕ → Value
 value_in row column = slice_index_or row column (values.Num 0)
 
--- the rows at these places, in this order
+-- the rows at these indexes, in this order
 abbrev pub rows_at : List (List Value) → List ℕ → List (List Value)
-rows_at rows places = map (λ at. slice_index_or rows at []) places
+rows_at rows indexes = map (λ at. slice_index_or rows at []) indexes
 
 -- a column: its kind, and the values of the rows in it
 abbrev pub column_of : KindedRows → ℕ → KindedValues

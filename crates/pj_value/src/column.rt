@@ -84,7 +84,7 @@ impl Column {
         }
     }
 
-    /// The value at this place, lent.
+    /// The value at this index, lent.
     pub fn cell(&self, at: usize) -> Cell<'_>
         requires { at < length self.now.values }
         ensures { value_of result ≡ slice_index_or self.now.values at (values.Num 0) }
@@ -95,7 +95,7 @@ impl Column {
         }
     }
 
-    /// The value at this place, lent, and the number 0 where there is none.
+    /// The value at this index, lent, and the number 0 where there is none.
     pub(crate) fn cell_or_zero(&self, at: usize) -> Cell<'_>
         ensures { value_of result ≡ slice_index_or self.now.values at (values.Num 0) }
     {
@@ -111,14 +111,14 @@ impl Column {
         }
     }
 
-    /// The values at these places, in this order, in memory of their own.
-    pub fn gather(&self, alloc: Global, places: &[usize]) -> Result<Column, NoMemory>
-        requires { All (λ at. at < length self.now.values) places.now }
-        ensures { IfOk result (λ c. c ≡ record self.now { values = values_at self.now.values places.now }) }
+    /// The values at these indexes, in this order, in memory of their own.
+    pub fn gather(&self, alloc: Global, indexes: &[usize]) -> Result<Column, NoMemory>
+        requires { All (λ at. at < length self.now.values) indexes.now }
+        ensures { IfOk result (λ c. c ≡ record self.now { values = values_at self.now.values indexes.now }) }
     {
         let items = match &self.items {
-            Items::Num(numbers) => Items::Num(numbers_at(numbers.as_slice(), places, alloc)?),
-            Items::Text(texts) => Items::Text(texts_at(texts.as_slice(), places, alloc)?),
+            Items::Num(numbers) => Items::Num(numbers_at(numbers.as_slice(), indexes, alloc)?),
+            Items::Text(texts) => Items::Text(texts_at(texts.as_slice(), indexes, alloc)?),
         };
         Ok(Column { items })
     }
@@ -152,7 +152,7 @@ impl Column {
         }
     }
 
-    /// Drops the values from this place on.
+    /// Drops the values from this index on.
     pub(crate) fn truncate(&mut self, len: usize)
         ensures { self.new ≡ record self.old { values = take len self.old.values } }
     {
@@ -227,25 +227,25 @@ fn push_copies(texts: &mut Vec<Text>, more: &[Text], alloc: Global) -> Result<()
     Ok(())
 }
 
-/// The numbers at these places, in this order.
-fn numbers_at(numbers: &[u64], places: &[usize], alloc: Global) -> Result<Vec<u64>, NoMemory>
-    requires { All (λ at. at < length numbers.now) places.now }
-    ensures { IfOk result (λ ns. ns.items ≡ map (λ at. slice_index_or numbers.now at 0) places.now) }
+/// The numbers at these indexes, in this order.
+fn numbers_at(numbers: &[u64], indexes: &[usize], alloc: Global) -> Result<Vec<u64>, NoMemory>
+    requires { All (λ at. at < length numbers.now) indexes.now }
+    ensures { IfOk result (λ ns. ns.items ≡ map (λ at. slice_index_or numbers.now at 0) indexes.now) }
 {
-    let mut found = Vec::with_capacity(alloc, places.len())?;
-    for at in places {
+    let mut found = Vec::with_capacity(alloc, indexes.len())?;
+    for at in indexes {
         found.push(numbers[*at])?;
     }
     Ok(found)
 }
 
-/// Copies of the texts at these places, in this order.
-fn texts_at(texts: &[Text], places: &[usize], alloc: Global) -> Result<Vec<Text>, NoMemory>
-    requires { All (λ at. at < length texts.now) places.now }
-    ensures { IfOk result (λ ts. ts.items ≡ map (λ at. slice_index_or texts.now at []) places.now) }
+/// Copies of the texts at these indexes, in this order.
+fn texts_at(texts: &[Text], indexes: &[usize], alloc: Global) -> Result<Vec<Text>, NoMemory>
+    requires { All (λ at. at < length texts.now) indexes.now }
+    ensures { IfOk result (λ ts. ts.items ≡ map (λ at. slice_index_or texts.now at []) indexes.now) }
 {
-    let mut found = Vec::with_capacity(alloc, places.len())?;
-    for at in places {
+    let mut found = Vec::with_capacity(alloc, indexes.len())?;
+    for at in indexes {
         found.push(texts[*at].duplicate(alloc)?)?;
     }
     Ok(found)

@@ -32,18 +32,18 @@ pub(crate) fn duplicate_columns(alloc: Global, columns: &[Column]) -> Result<Vec
     Ok(copies)
 }
 
-/// The values at these places of each column, in memory of their own.
+/// The values at these indexes of each column, in memory of their own.
 pub(crate) fn gather_columns(
     alloc: Global,
     columns: &[Column],
-    places: &[usize],
+    indexes: &[usize],
 ) -> Result<Vec<Column>, NoMemory>
-    requires { All (λ c. All (λ at. at < length c.values) places.now) columns.now }
-    ensures { IfOk result (λ cs. cs.items ≡ map (gathered places.now) columns.now) }
+    requires { All (λ c. All (λ at. at < length c.values) indexes.now) columns.now }
+    ensures { IfOk result (λ cs. cs.items ≡ map (gathered indexes.now) columns.now) }
 {
     let mut found = Vec::with_capacity(alloc, columns.len())?;
     for column in columns {
-        found.push(column.gather(alloc, places)?)?;
+        found.push(column.gather(alloc, indexes)?)?;
     }
     Ok(found)
 }
@@ -93,7 +93,7 @@ pub(crate) fn push_row(
     Ok(())
 }
 
-/// Adds the values of each column to the column at its place. After an error some columns may have theirs.
+/// Adds the values of each column to the column at its index. After an error some columns may have theirs.
 pub(crate) fn append_columns(
     columns: &mut Vec<Column>,
     more: &[Column],
@@ -109,7 +109,7 @@ pub(crate) fn append_columns(
     Ok(())
 }
 
-/// Drops the values of each column from this place on.
+/// Drops the values of each column from this index on.
 pub(crate) fn truncate_columns(columns: &mut Vec<Column>, len: usize)
     ensures { columns.new.items ≡ map (truncated len) columns.old.items }
 {

@@ -1,7 +1,9 @@
-//! How a text is written in a line of output: a tab ends a value and a line feed a row. And how one is read.
-ghost use Rattle.std.specs.Prelude.{◌≡◌, ◌<◌, ℕ, ◌++◌, drop, length, slice_index, take};
+//! How a text is written in a text line of output: a tab ends a value and a line feed a row. And how one is read.
+ghost use Rattle.std.specs.Prelude.{◌≡◌, ◌<◌, ◌≤◌, ℕ, ◌++◌, drop, length, slice_index, take};
 ghost use Rattle.std.specs.Prelude.{IfOk, IfSome, IsNone, OnOk, OnErr};
-ghost use Rattle.pj_value.specs.Escaping.{escaped, escaped_byte, meaning, Spells, HasNoLetter, IsBadEscape};
+ghost use Rattle.std.specs.List.{prefix_len};
+ghost use Rattle.pj_value.specs.Escaping.{escaped, escaped_byte, is_plain, meaning, Spells, HasNoLetter};
+ghost use Rattle.pj_value.specs.Escaping.{IsBadEscape};
 ghost use Rattle.pj_value.specs.EscapingLaws.{EscapedIsRead, OneText, NoTextWithABadEscape, OneBadEscape};
 ghost use Rattle.pj_value.specs.EscapingLaws.{TextOrBadEscape};
 
@@ -10,14 +12,52 @@ use crate::text::Text;
 use std::alloc::Global;
 
 /// Writes a text behind what `out` holds. After an error `out` holds a part of it.
+// Inlined where values are told apart, it would save its registers for each number too.
+#[inline(never)]
 pub fn escape(text: &[u8], out: &mut Vec<u8>) -> Result<(), NoMemory>
     ensures ok { OnOk result (out.new.items ≡ out.old.items ++ escaped text.now) }
     ensures err { OnErr result ((n : ℕ) × (out.new.items ≡ out.old.items ++ take n (escaped text.now))) }
 {
-    for byte in text {
-        escape_byte(*byte, out)?;
+    if plain_len(text) == text.len() {
+        out.extend_from_slice(text)?;
+        return Ok(());
+    }
+    escape_pieces(text, out)
+}
+
+/// The same for a text of which a byte or more isn't plain: the plain bytes between two of these at once.
+#[inline(never)]
+fn escape_pieces(text: &[u8], out: &mut Vec<u8>) -> Result<(), NoMemory>
+    ensures ok { OnOk result (out.new.items ≡ out.old.items ++ escaped text.now) }
+    ensures err { OnErr result ((n : ℕ) × (out.new.items ≡ out.old.items ++ take n (escaped text.now))) }
+{
+    let mut at = 0;
+    'pieces: while at < text.len() {
+        let end = at + plain_len(&text[at..]);
+        if at < end {
+            out.extend_from_slice(&text[at..end])?;
+            at = end;
+        } else {
+            escape_byte(text[at], out)?;
+            at += 1;
+        }
     }
     Ok(())
+}
+
+/// How many plain bytes a text begins with. It reads these and one byte more.
+fn plain_len(text: &[u8]) -> usize
+    ensures plain { result ≡ prefix_len is_plain text.now }
+    ensures within { result ≤ length text.now }
+{
+    text.iter().take_while(|byte| is_plain(**byte)).count()
+}
+
+/// Whether the byte is written as it is.
+fn is_plain(byte: u8) -> bool
+    ensures { result ≡ is_plain byte }
+{
+    byte != b'\\' && byte != b'\t' && byte != b'\n' && byte != b'\r' && byte != 0
 }
 
 /// Writes a byte of a text behind what `out` holds, whole or not at all.
@@ -63,7 +103,7 @@ pub fn unescape(alloc: Global, text: &[u8]) -> Result<Text, UnescapeFault>
     Ok(Text::from_vec(read))
 }
 
-/// The byte that the letter at this place stands for behind a backslash.
+/// The byte that the letter at this offset stands for behind a backslash.
 fn byte_at(all: &[u8], at: usize) -> Option<u8>
     ensures some { IfSome result (λ b. (at < length all.now) × (meaning (slice_index all.now at) ≡ Some b)) }
     ensures none { IsNone result → HasNoLetter (drop at all.now) }
@@ -96,6 +136,6 @@ pub fn unescape_undoes_escape()
 pub fn text_or_bad_escape()
     ensures one_text { OneText }
     ensures not_both { NoTextWithABadEscape }
-    ensures one_place { OneBadEscape }
+    ensures one_offset { OneBadEscape }
     ensures some { TextOrBadEscape }
 {}

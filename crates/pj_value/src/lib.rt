@@ -18,6 +18,3 @@ pub use memory::{NoMemory, PushFault, UnescapeFault};
 pub use rows::Rows;
 pub use text::Text;
 pub use value::{AggKind, Cell, Kind, Value, cell_cmp};
-
-#[cfg(test)]
-mod tests;

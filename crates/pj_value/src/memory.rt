@@ -1,4 +1,4 @@
-//! The refusals of this crate. Want of memory has a type of its own, since every crate answers it.
+//! The refusals of this crate. Out of memory has a type of its own, since every crate answers it.
 ghost use Rattle.std.specs.Prelude.{◌≡◌};
 ghost use Rattle.pj_value.specs.declared.memory.PushFault.TheVariants as push_faults;
 ghost use Rattle.pj_value.specs.declared.memory.UnescapeFault.TheVariants as unescape_faults;
@@ -6,9 +6,9 @@ ghost use Rattle.pj_value.specs.declared.memory.UnescapeFault.TheVariants as une
 use std::alloc::{AllocError, AllocFailed};
 use thiserror::Error;
 
-/// There was no memory for the call. It may come from any call that allocates, and says nothing more.
+/// The call is out of memory. It may come from any call that allocates, and says nothing more.
 #[derive(Clone, Copy, Debug, PartialEq, Eq, Error)]
-#[error("no memory")]
+#[error("out of memory")]
 pub struct NoMemory;
 
 impl From<AllocError> for NoMemory {
@@ -29,8 +29,8 @@ pub enum PushFault {
     /// The kinds of what was handed in are not those that stand there.
     #[error("wrong shape")]
     WrongShape,
-    /// There was no memory for it.
-    #[error("no memory")]
+    /// It is out of memory.
+    #[error("out of memory")]
     NoMemory,
 }
 
@@ -61,11 +61,11 @@ impl<T: Drop> From<AllocFailed<T>> for PushFault {
 /// Why bytes were not read as a text.
 #[derive(Clone, Copy, Debug, PartialEq, Eq, Error)]
 pub enum UnescapeFault {
-    /// At this place, counted from 0, is a backslash with no letter behind it that may be there.
+    /// At this offset, counted from 0, is a backslash with no letter behind it that may be there.
     #[error("bad escape at byte {at}")]
     BadEscape { at: usize },
-    /// There was no memory for the text. The bytes may spell one or not.
-    #[error("no memory")]
+    /// Out of memory for the text. The bytes may spell one or not.
+    #[error("out of memory")]
     NoMemory,
 }
 

@@ -4,7 +4,8 @@ ghost use Rattle.std.specs.Prelude.{◌≡◌, ◌<◌, ◌++◌, ◌∷◌, [],
 ghost use Rattle.std.specs.Prelude.{IfOk, OnOk, OnErr, IsTrue};
 ghost use Rattle.std.specs.List.{All};
 ghost use Rattle.pj_value.specs.Values.{kind_of, value_of};
-ghost use Rattle.pj_value.specs.Rows.{no_rows, value_at, rows_at, column_of, rows_in, rows_joined, HaveKinds};
+ghost use Rattle.pj_value.specs.Rows.{no_rows, rows_of_no_columns, value_at, rows_at, column_of, rows_in};
+ghost use Rattle.pj_value.specs.Rows.{rows_joined, HaveKinds};
 ghost use Rattle.pj_value.specs.Order.{IsSortedBy};
 
 use crate::column::Column;
@@ -13,7 +14,7 @@ use crate::columns::{
     truncate_columns,
 };
 use crate::memory::{NoMemory, PushFault};
-use crate::sorting::sorted_places;
+use crate::sorting::sorted_indexes;
 use crate::value::{Cell, Kind, Value};
 use std::alloc::Global;
 use std::marker::Model;
@@ -57,6 +58,18 @@ impl Rows {
         })
     }
 
+    /// So many rows of no columns. Takes no memory.
+    pub fn of_no_columns(alloc: Global, len: usize) -> Rows
+        ensures { result ≡ rows_of_no_columns len }
+    {
+        Rows {
+            kinds: Vec::new(alloc),
+            columns: Vec::new(alloc),
+            len,
+            alloc,
+        }
+    }
+
     /// The rows whose values in each column are those of one of these columns, which are moved.
     pub fn from_columns(alloc: Global, columns: Vec<Column>) -> Result<Rows, NoMemory>
         requires some { 0 < length columns.items }
@@ -96,7 +109,7 @@ impl Rows {
     }
 
     /// Adds a copy of the row behind the others, in amortised constant time for each value beside the copies
-    /// of texts. The shape is tested before any memory is taken. More rows than a word can count are want of
+    /// of texts. The shape is tested before any memory is taken. More rows than a word can count are refused as out of
     /// memory: no memory holds as many, unless they have no columns.
     pub fn push(&mut self, row: &[Value]) -> Result<(), PushFault>
         ensures added { OnOk result (self.new ≡ record self.old { rows = self.old.rows ++ row.now ∷ [] }) }
@@ -139,15 +152,15 @@ impl Rows {
         &self.columns[at]
     }
 
-    /// The rows at these places, in this order, in memory of their own.
-    pub fn gather(&self, places: &[usize]) -> Result<Rows, NoMemory>
-        requires { All (λ at. at < length self.now.rows) places.now }
-        ensures { IfOk result (λ r. r ≡ record self.now { rows = rows_at self.now.rows places.now }) }
+    /// The rows at these indexes, in this order, in memory of their own.
+    pub fn gather(&self, indexes: &[usize]) -> Result<Rows, NoMemory>
+        requires { All (λ at. at < length self.now.rows) indexes.now }
+        ensures { IfOk result (λ r. r ≡ record self.now { rows = rows_at self.now.rows indexes.now }) }
     {
         Ok(Rows {
             kinds: Vec::from_slice(self.alloc, self.kinds.as_slice())?,
-            columns: gather_columns(self.alloc, self.columns.as_slice(), places)?,
-            len: places.len(),
+            columns: gather_columns(self.alloc, self.columns.as_slice(), indexes)?,
+            len: indexes.len(),
             alloc: self.alloc,
         })
     }
@@ -162,13 +175,13 @@ impl Rows {
         ensures kinds { self.new.kinds ≡ self.old.kinds }
         ensures same { OnErr result (self.new ≡ self.old) }
     {
-        let places = sorted_places(self.alloc, self.columns.as_slice(), keys, self.len)?;
-        let columns = gather_columns(self.alloc, self.columns.as_slice(), places.as_slice())?;
+        let indexes = sorted_indexes(self.alloc, self.columns.as_slice(), keys, self.len)?;
+        let columns = gather_columns(self.alloc, self.columns.as_slice(), indexes.as_slice())?;
         self.columns = columns;
         Ok(())
     }
 
-    /// Drops the rows from this place on.
+    /// Drops the rows from this index on.
     pub fn truncate(&mut self, len: usize)
         ensures { self.new ≡ record self.old { rows = take len self.old.rows } }
     {

@@ -61,6 +61,16 @@ impl Value {
         }
     }
 
+    /// The same value, lent. Takes no memory.
+    pub fn as_cell(&self) -> Cell<'_>
+        ensures { value_of result ≡ self.now }
+    {
+        match self {
+            Value::Num(number) => Cell::Num(*number),
+            Value::Text(text) => Cell::Text(text),
+        }
+    }
+
     /// The same value, which owns its text. A number takes no memory.
     pub fn duplicate(&self, alloc: Global) -> Result<Value, NoMemory>
         ensures { IfOk result (λ v. v ≡ self.now) }

@@ -1,2 +1,2 @@
 pub mod OneKind
-pub mod ReadingLemmas
+pub mod WishLemmas

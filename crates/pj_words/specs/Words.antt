@@ -1,5 +1,6 @@
--- What the words of the program ask for (docs/FORMATS.md, "Words"), by what `clap` makes of them.
+-- What the arguments of the program ask for (docs/FORMATS.md, "Arguments"), by what `clap` makes of them.
 use Rattle.std.specs.Prelude.{ℕ, Bool, true, false, List, [], ◌∷◌, Option, Some, None, codes}
+use Rattle.std.specs.Prelude.{◌||◌, not, is_some}
 use Rattle.std.specs.Str.{bytes_eq}
 use Rattle.std.specs.Option.{option_map_or}
 use Rattle.clap.specs.Simple.{on_top}
@@ -18,18 +19,18 @@ history_flag = record (new_rule (codes "history")) { long = Some (codes "history
 abbrev pub app : App
 app = with_rule (on_top (λ s. record s { has_version = true }) (new_app (codes "projplay"))) history_flag
 
--- the flag stands among the words of which these are the matches
+-- the flag stands among the arguments of which these are the matches
 abbrev pub is_set : List Row → Bool
 is_set rows = option_map_or (λ value. bytes_eq value (codes "true")) (one_of (codes "history") rows) false
 
--- whether the history is wanted, where no kind of error refuses the words
+-- whether the history is wanted, where no kind of error refuses the arguments
 abbrev pub wish_by : Kinds → List Row → Option Bool
 wish_by [] rows = Some (is_set rows)
 wish_by (kind ∷ others) rows = None
 
--- whether the words, the program's name first, want the text of the history; none where they aren't taken
+-- whether the arguments, the program's name first, want the text of the history; none where they aren't taken
 unfoldable pub wish_of : List (List ℕ) → Option Bool
-wish_of words = wish_by (fault_of app words) (matches_of app words)
+wish_of arguments = wish_by (fault_of app arguments) (matches_of app arguments)
 
 -- what a parse asks for that ends with these kinds
 abbrev pub about_by : Kinds → Option About
@@ -37,6 +38,10 @@ about_by (kinds.DisplayHelp ∷ others) = Some abouts.Help
 about_by (kinds.DisplayVersion ∷ others) = Some abouts.Version
 about_by _ = None
 
--- what the words ask the program to say of itself
+-- what the arguments ask the program to say of itself
 unfoldable pub about_of : List (List ℕ) → Option About
-about_of words = about_by (fault_of app words)
+about_of arguments = about_by (fault_of app arguments)
+
+-- whether the arguments aren't taken, and don't ask about the program
+abbrev pub is_refused : List (List ℕ) → Bool
+is_refused arguments = not (is_some (wish_of arguments) || is_some (about_of arguments))

@@ -7,7 +7,7 @@ use clap::error::ErrorKind;
 use pj_value::NoMemory;
 use std::alloc::Global;
 
-/// What the words ask the program to say of itself, instead of running a script.
+/// What the arguments ask the program to say of itself, instead of running a script.
 #[derive(Clone, Copy, Debug, PartialEq, Eq)]
 pub enum About {
     /// How it is called.

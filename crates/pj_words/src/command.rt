@@ -1,4 +1,4 @@
-//! The command that `clap` reads the words by.
+//! The command that `clap` reads the arguments by.
 ghost use Rattle.std.specs.Prelude.{◌≡◌, IfOk};
 ghost use Rattle.clap.specs.Words.{app_of};
 ghost use Rattle.pj_words.specs.Words.{app};
@@ -10,11 +10,11 @@ const ABOUT: &str = "Runs a script of SQL sessions from standard input and write
 
 const STATUSES: &str = "Status:
   0  the script was run and all was written
-  2  the words aren't taken
+  2  the arguments aren't taken
   3  a line of the script is bad
   4  standard input couldn't be read
   5  standard output couldn't be written
-  6  there was no memory
+  6  out of memory
   7  the script has more than 16777216 bytes
 
 Example script:

@@ -1,14 +1,12 @@
-//! The words of `projplay`, read by `clap`: whether the text of the history is wanted, or what the program is
-//! to say of itself.
+//! The arguments of `projplay`, read by `clap`: whether the text of the history is wanted, what the program is to say
+//! of itself, or why they aren't taken.
 #![tactic(auto)]
 
 mod about;
 mod command;
 mod fault;
-mod reading;
-#[cfg(test)]
-mod tests;
+mod wishes;
 
 pub use about::{About, about_text};
 pub use fault::WordsFault;
-pub use reading::{asked_about, wants_history};
+pub use wishes::{asked_about, usage_text, wants_history};

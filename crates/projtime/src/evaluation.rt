@@ -3,7 +3,8 @@ ghost use Rattle.pj_expr.specs.Fits.{FitsExpr};
 
 use crate::layer::{Layer, since};
 use anyhow::bail;
-use pj_expr::{Expr, eval_block, eval_row, fits_expr};
+use pj_block::eval_block;
+use pj_expr::{Expr, eval_row, fits_expr};
 use pj_value::{Cell, Column, Kind, NoMemory, PushFault, Rows, Value};
 use sqlite_items::Boxed;
 use std::alloc::Global;

@@ -1,6 +1,6 @@
 use Rattle.std.proofs.Common.{IfErr, sym, subst}
 use Rattle.std.proofs.lemmas.Result.{err_from_is_err_and}
-use Rattle.pj_parse.specs.declared.types.Statement.{Statement}
+use Rattle.pj_grammar.specs.declared.types.Statement.{Statement}
 use Rattle.pj_bind.specs.Faults.{IsBuiltFault}
 use Rattle.pj_bind.proofs.binding.bind_built.Goals as goal
 

@@ -13,8 +13,8 @@ use Rattle.pj_bind.proofs.binding.check_create.Goals as goal
 pub returns-then-is_some-clause-refused : goal.returns-then-is_some-clause-refused
 returns-then-is_some-clause-refused c = inl (
   ap TableExists c.in_ok-name.ensures,
-  table-found c.args.tables.now c.args.name.now c.place_of.result (sym c.is_some.ensures ∙ c.if-is_some.true)
-      c.place_of.ensures,
+  table-found c.args.tables.now c.args.name.now c.number_of.result (sym c.is_some.ensures ∙ c.if-is_some.true)
+      c.number_of.ensures,
 )
 
 pub returns-in-Some-clause-refused : goal.returns-in-Some-clause-refused
@@ -26,8 +26,8 @@ returns-in-Some-clause-refused c =
     IsFault-is (First (create_causes c.args.tables.now c.args.name.now columns c.args.key.now)) _ _
     c.duplicate_column.ensures
     (create-column c.args.tables.now c.args.name.now columns c.args.key.now
-    (HasRoom-from c.args.tables.now c.args.name.now columns c.place_of.result
-    (sym c.is_some.ensures ∙ c.if-is_some.false) c.place_of.ensures (omega arith) (omega arith)) _
+    (HasRoom-from c.args.tables.now c.args.name.now columns c.number_of.result
+    (sym c.is_some.ensures ∙ c.if-is_some.false) c.number_of.ensures (omega arith) (omega arith)) _
     (IsFirstRepeat-from _ _ names c.in_ok-repeated.field-0 c.in-Some.repeated c.in-Some.is
     c.in_ok-repeated.ensures))
 
@@ -40,8 +40,8 @@ returns-in-Some-2-clause-refused c =
     IsFault-is (First (create_causes c.args.tables.now c.args.name.now columns c.args.key.now)) _ _
     c.duplicate_column-in-Some-2.ensures
     (create-key c.args.tables.now c.args.name.now columns c.args.key.now
-    (HasRoom-from c.args.tables.now c.args.name.now columns c.place_of.result
-    (sym c.is_some.ensures ∙ c.if-is_some.false) c.place_of.ensures (omega arith) (omega arith))
+    (HasRoom-from c.args.tables.now c.args.name.now columns c.number_of.result
+    (sym c.is_some.ensures ∙ c.if-is_some.false) c.number_of.ensures (omega arith) (omega arith))
     (NoneRepeats-from _ _ names c.in_ok-repeated.field-0 c.in_default.is c.in_ok-repeated.ensures) _
     (IsFirstRepeat-from _ _ refl c.in_ok-repeated-2.field-0 c.in-Some-2.repeated c.in-Some-2.is
     c.in_ok-repeated-2.ensures))
@@ -56,8 +56,8 @@ returns-in-Some-unknown_in_names-clause-refused c =
     IsFault-is (First (create_causes c.args.tables.now c.args.name.now columns c.args.key.now)) _ _
     c.unknown_identifier.ensures
     (create-unknown c.args.tables.now c.args.name.now columns c.args.key.now
-    (HasRoom-from c.args.tables.now c.args.name.now columns c.place_of.result
-    (sym c.is_some.ensures ∙ c.if-is_some.false) c.place_of.ensures (omega arith) (omega arith)) (
+    (HasRoom-from c.args.tables.now c.args.name.now columns c.number_of.result
+    (sym c.is_some.ensures ∙ c.if-is_some.false) c.number_of.ensures (omega arith) (omega arith)) (
       NoneRepeats-from _ _ names c.in_ok-repeated.field-0 c.in_default.is c.in_ok-repeated.ensures,
       NoneRepeats-from _ _ refl c.in_ok-repeated-2.field-0 c.in_default-2.is c.in_ok-repeated-2.ensures,
     ) _
@@ -73,8 +73,8 @@ returns-clause-can c =
     ∙ ap column_names (c.as_slice.ensures.value ∙ c.in_ok-defs.ensures) in
     record {
       room =
-          HasRoom-from c.args.tables.now c.args.name.now columns c.place_of.result
-          (sym c.is_some.ensures ∙ c.if-is_some.false) c.place_of.ensures (omega arith) (omega arith);
+          HasRoom-from c.args.tables.now c.args.name.now columns c.number_of.result
+          (sym c.is_some.ensures ∙ c.if-is_some.false) c.number_of.ensures (omega arith) (omega arith);
       once = (
         NoneRepeats-from _ _ names c.in_ok-repeated.field-0 c.in_default.is c.in_ok-repeated.ensures,
         NoneRepeats-from _ _ refl c.in_ok-repeated-2.field-0 c.in_default-2.is c.in_ok-repeated-2.ensures,

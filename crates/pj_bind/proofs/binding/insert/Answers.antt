@@ -2,10 +2,10 @@ use Rattle.std.proofs.Common.{◌<◌, length, ap, arith}
 use Rattle.std.proofs.lemmas.Option.{slice_get_within}
 use Rattle.std.proofs.lemmas.Result.{err_from_is_err_and}
 use Rattle.pj_expr.specs.declared.table.Table.{Table}
-use Rattle.pj_parse.specs.declared.types.Statement.TheVariants as statements
+use Rattle.pj_grammar.specs.declared.types.Statement.TheVariants as statements
 use Rattle.pj_bind.specs.declared.types.Bound.TheVariants as bounds
 use Rattle.pj_bind.specs.Causes.{First}
-use Rattle.pj_bind.specs.Binding.{insert_causes, asked_of, IsRefusedBy}
+use Rattle.pj_bind.specs.Binding.{insert_causes, asked_of, IsFormRefusal}
 use Rattle.pj_bind.proofs.AtLemmas.{First-causes_at}
 use Rattle.pj_bind.proofs.FaultLemmas.{IsFault-weaker}
 use Rattle.pj_bind.proofs.TableLemmas.{IsTableAt-read}
@@ -16,30 +16,30 @@ returns-in_err-rows-clause-refused c =
     let name = c.args.name.now in
     let listed = c.args.listed.now in
     let rows = c.args.rows.now in
-    let table : Table = c.index-tables-place.result in
+    let table : Table = c.index-tables-number.result in
     let p = err_from_is_err_and c.from_residual.result c.from_residual.ensures.1 in
     let h = c.in_err-rows.ensures.refused in
     rw (p.1, p.2)
     (IsFault-weaker (First (asked_of table (insert_causes listed rows)))
-    (IsRefusedBy c.args.tables.now (statements.Insert name listed rows)) _
-    (First-causes_at c.args.tables.now name c.in-Some.place table
-    (IsTableAt-read c.args.tables.now name c.in-Some.place table c.in-Some.ensures
-    c.index-tables-place.is) (insert_causes listed rows)) h)
+    (IsFormRefusal c.args.tables.now (statements.Insert name listed rows)) _
+    (First-causes_at c.args.tables.now name c.in-Some.number table
+    (IsTableAt-read c.args.tables.now name c.in-Some.number table c.in-Some.ensures
+    c.index-tables-number.is) (insert_causes listed rows)) h)
 
 pub overflow_cast-result : goal.overflow_cast-result
 overflow_cast-result c =
     let at = c.in-Some.ensures in
-    let within : c.in-Some.place < length c.args.tables.now =
-    slice_get_within c.args.tables.now c.in-Some.place at.0 at.1.0 in
+    let within : c.in-Some.number < length c.args.tables.now =
+    slice_get_within c.args.tables.now c.in-Some.number at.0 at.1.0 in
     omega (arith, c.requires.few)
 
 pub returns-clause-bound : goal.returns-clause-bound
 returns-clause-bound c = (
-  c.in-Some.place,
-  c.index-tables-place.result,
-  IsTableAt-read c.args.tables.now c.args.name.now c.in-Some.place c.index-tables-place.result
-      c.in-Some.ensures c.index-tables-place.is,
+  c.in-Some.number,
+  c.index-tables-number.result,
+  IsTableAt-read c.args.tables.now c.args.name.now c.in-Some.number c.index-tables-number.result
+      c.in-Some.ensures c.index-tables-number.is,
   c.in_ok-rows.ensures.columns,
   c.in_ok-rows.ensures.fill,
-  ap (bounds.Insert c.in-Some.place) c.in_ok-rows.ensures.rows,
+  ap (bounds.Insert c.in-Some.number) c.in_ok-rows.ensures.rows,
 )

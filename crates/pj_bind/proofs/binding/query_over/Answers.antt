@@ -4,7 +4,7 @@ use Rattle.pj_expr.specs.declared.table.ColumnDef.{ColumnDef}
 use Rattle.pj_expr.specs.declared.table.Table.{Table}
 use Rattle.pj_expr.specs.Tables.{kinds_of}
 use Rattle.pj_expr.specs.Fits.{KeepsKinds}
-use Rattle.pj_parse.specs.declared.types.TreeSelect.{TreeSelect}
+use Rattle.pj_grammar.specs.declared.types.TreeSelect.{TreeSelect}
 use Rattle.pj_bind.specs.Names.{first_unknown}
 use Rattle.pj_bind.specs.Filling.{column_names}
 use Rattle.pj_bind.specs.Queries.{column_names_of, query_of}

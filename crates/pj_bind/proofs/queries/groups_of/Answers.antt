@@ -1,5 +1,5 @@
 use Rattle.std.proofs.Common.{sym, ◌∙◌, arith}
-use Rattle.pj_parse.specs.declared.types.Tree.{Tree}
+use Rattle.pj_grammar.specs.declared.types.Tree.{Tree}
 use Rattle.pj_bind.specs.Queries.{group_of, value_named}
 use Rattle.pj_bind.proofs.QueryLemmas.{all_of-more, all_of-missing}
 use Rattle.pj_bind.proofs.queries.groups_of.Goals as goal

@@ -1,5 +1,5 @@
 use Rattle.std.proofs.Common.{sym, ◌∙◌, arith}
-use Rattle.pj_parse.specs.declared.types.Listed.{Listed}
+use Rattle.pj_grammar.specs.declared.types.Listed.{Listed}
 use Rattle.pj_bind.specs.Queries.{item_of}
 use Rattle.pj_bind.proofs.QueryLemmas.{all_of-more, all_of-missing}
 use Rattle.pj_bind.proofs.queries.listed_items.Goals as goal

@@ -1,5 +1,5 @@
 use Rattle.std.proofs.Common.{arith}
-use Rattle.pj_parse.specs.declared.types.Listed.{Listed}
+use Rattle.pj_grammar.specs.declared.types.Listed.{Listed}
 use Rattle.pj_bind.specs.Filling.{column_names}
 use Rattle.pj_bind.specs.Queries.{names_of_item}
 use Rattle.pj_bind.proofs.QueryLemmas.{unknown-here, unknown-more}

@@ -3,7 +3,7 @@ use Rattle.std.specs.Option.{option_and_then}
 use Rattle.std.specs.List.{find}
 use Rattle.std.proofs.lemmas.Iterator.{YieldsList-from_slice}
 use Rattle.std.proofs.lemmas.Iterator.Search.{find_from_yields_List}
-use Rattle.pj_parse.specs.declared.types.Listed.{Listed}
+use Rattle.pj_grammar.specs.declared.types.Listed.{Listed}
 use Rattle.pj_bind.specs.Names.{Name}
 use Rattle.pj_bind.specs.Queries.{has_alias, is_value, lone_name}
 use Rattle.pj_bind.proofs.queries.value_named.Goals as goal

@@ -1,6 +1,7 @@
 use Rattle.std.proofs.Common.{◌≡◌, ◌++◌, [], take, get_or}
-use Rattle.pj_legal.specs.Texts.{row_text}
+use Rattle.std.specs.List.{flat_map}
+use Rattle.pj_legal.proofs.RowTexts.{tabbed}
 use Rattle.pj_legal.proofs.reply.put_row.Given as goal
 
 abbrev pub invariant-columns : goal.invariant-columns
-invariant-columns l = l.out.items ≡ l.fn.out.items ++ row_text (take l.column (get_or l.rows.rows l.row []))
+invariant-columns l = l.out.items ≡ l.fn.out.items ++ flat_map tabbed (take l.column (get_or l.rows.rows l.row []))

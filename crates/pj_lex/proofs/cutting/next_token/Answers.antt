@@ -1,7 +1,8 @@
 use Rattle.std.proofs.Common.{◌≡◌, ◌<◌, Ok, Err, length, sym, ap, ◌∙◌, arith}
 use Rattle.std.proofs.lemmas.List.{nil_from_length}
 use Rattle.std.proofs.lemmas.Bool.Decides.{nat_tests}
-use Rattle.pj_lex.specs.TokenReading.{after_blanks, token_at}
+use Rattle.pj_lex.specs.Bytes.{after_blanks}
+use Rattle.pj_lex.specs.TokenReading.{token_at}
 use Rattle.pj_lex.proofs.BodyTokens.{all_blank, not_all_blank, blanks-length, first_is_read}
 use Rattle.pj_lex.proofs.BodyTokens.{break_is_read, behind-within, stuck-within}
 use Rattle.pj_lex.proofs.cutting.next_token.Goals as goal

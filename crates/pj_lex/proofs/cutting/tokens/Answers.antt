@@ -16,8 +16,8 @@ tokens-preserved c =
             c.tokens.invariant.within,
             first-shorter (length body - length rest) rest c.in-Some.behind.now c.in-Some.token first,
           );
-      front =
+      prefix =
           rw c.in_ok-push.ensures.items
           (Lead-next body rest c.in-Some.behind.now c.tokens.tokens.items c.in-Some.token
-          c.tokens.invariant.within c.tokens.invariant.front first);
+          c.tokens.invariant.within c.tokens.invariant.prefix first);
     }

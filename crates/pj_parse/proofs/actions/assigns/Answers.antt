@@ -1,8 +1,8 @@
 use Rattle.std.proofs.Common.{◌+◌, ◌-◌, arith, rules}
 use Rattle.std.proofs.lemmas.Result.{err_from_is_err_and}
-use Rattle.pj_parse.specs.ParsingValues.{value_at}
-use Rattle.pj_parse.specs.ParsingStatements.{assign_at}
-use Rattle.pj_parse.proofs.ManyLoop.{list-step, list-fails, list-ends, list-stops}
+use Rattle.pj_grammar.specs.parsing.Values.{value_at}
+use Rattle.pj_grammar.specs.parsing.Statements.{assign_at}
+use Rattle.pj_phrase.proofs.ManyLoop.{list-step, list-fails, list-ends, list-stops}
 use Rattle.pj_parse.proofs.actions.assigns.Goals as goal
 use Rattle.pj_parse.proofs.actions.assigns.Goals.{else-assigns-test, then-assigns-test+then-not-begins_symbol}
 

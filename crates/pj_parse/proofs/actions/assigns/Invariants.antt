@@ -1,7 +1,7 @@
 use Rattle.std.proofs.Common.{◌≡◌, ◌-◌}
-use Rattle.pj_parse.specs.ParsingValues.{value_at}
-use Rattle.pj_parse.specs.ParsingStatements.{assign_at, assigns_at}
-use Rattle.pj_parse.proofs.ManyLoop.{list_going}
+use Rattle.pj_grammar.specs.parsing.Values.{value_at}
+use Rattle.pj_grammar.specs.parsing.Statements.{assign_at, assigns_at}
+use Rattle.pj_phrase.proofs.ManyLoop.{list_going}
 use Rattle.pj_parse.proofs.actions.assigns.Given as goal
 
 abbrev pub invariant-assigns : goal.invariant-assigns

@@ -1,4 +1,4 @@
-use Rattle.pj_parse.specs.declared.types.ScriptMode.TheVariants.{Play}
+use Rattle.pj_script.specs.declared.types.ScriptMode.TheVariants.{Play}
 use Rattle.pj_server.proofs.PlayLemmas.{lines_rise}
 use Rattle.pj_server.proofs.playing.play_bytes.Goals as goal
 

@@ -2,4 +2,4 @@ use Rattle.std.proofs.Common.{◌≡◌, get_or, map, take}
 use Rattle.pj_value.proofs.column.numbers_at.Given as goal
 
 abbrev pub invariant-loop-at : goal.invariant-loop-at
-invariant-loop-at l = l.found.items ≡ map (λ at. get_or l.numbers at 0) (take l.at-index l.places)
+invariant-loop-at l = l.found.items ≡ map (λ at. get_or l.numbers at 0) (take l.at-index l.indexes)

@@ -7,8 +7,8 @@ returns-clause-one_text c = one_text
 pub returns-clause-not_both : goal.returns-clause-not_both
 returns-clause-not_both c = no_text_with_a_bad_escape
 
-pub returns-clause-one_place : goal.returns-clause-one_place
-returns-clause-one_place c = one_bad_escape
+pub returns-clause-one_offset : goal.returns-clause-one_offset
+returns-clause-one_offset c = one_bad_escape
 
 pub returns-clause-some : goal.returns-clause-some
 returns-clause-some c = text_or_bad

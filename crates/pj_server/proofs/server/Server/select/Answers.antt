@@ -2,7 +2,7 @@ use Rattle.std.proofs.Common.{◌≡◌, ap, ◌∙◌}
 use Rattle.std.proofs.lemmas.Option.{slice_get_within}
 use Rattle.pj_journal.specs.Log.{Log}
 use Rattle.pj_journal.specs.History.{catalog, table_rows}
-use Rattle.pj_server.specs.Moves.{said_of}
+use Rattle.pj_server.specs.Moves.{request_of}
 use Rattle.pj_server.proofs.MoveLemmas.{does_select}
 use Rattle.pj_server.proofs.StateLemmas.{held_rows}
 use Rattle.pj_server.proofs.server.Server.select.Goals as goal
@@ -28,5 +28,5 @@ returns-in-Ok c =
     held_rows h c.self.inside.tables c.self.inside.stores.items c.args.table c.index.result.now fits.0
     c.self.invariant fits.1 c.index.ensures
     ∙ ap (λ (log : Log). table_rows log.entries c.args.table) c.self.view_is in
-    does_select c.args.self.now c.note.new.self (said_of c.args.by) c.args.table c.args.query.now
+    does_select c.args.self.now c.note.new.self (request_of c.args.by) c.args.table c.args.query.now
     c.index.result.now.rows c.in-Ok.rows same c.in-Ok.ensures c.note.ensures

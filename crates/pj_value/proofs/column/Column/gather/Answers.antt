@@ -21,7 +21,7 @@ returns c = elim c.match-self.branch [
         w.as_slice.ensures.value,
       )
       (ap (λ vs. record { kind = kinds.Num; values = vs })
-      (values_at-map (λ n. values.Num n) w.in-Num.numbers.items 0 c.args.places.now
+      (values_at-map (λ n. values.Num n) w.in-Num.numbers.items 0 c.args.indexes.now
       (rw (← c.self.view_is, w.in-Num.is, length-map) at c.requires)))
   | in-Text+in_ok-texts_at-in-Text w ↦
       rw (
@@ -32,6 +32,6 @@ returns c = elim c.match-self.branch [
         w.as_slice-in-Text.ensures.value,
       )
       (ap (λ vs. record { kind = kinds.Text; values = vs })
-      (values_at-map (λ t. values.Text t) w.in-Text.texts.items [] c.args.places.now
+      (values_at-map (λ t. values.Text t) w.in-Text.texts.items [] c.args.indexes.now
       (rw (← c.self.view_is, w.in-Text.is, length-map) at c.requires)))
 ]

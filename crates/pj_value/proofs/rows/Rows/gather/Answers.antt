@@ -7,16 +7,16 @@ use Rattle.pj_value.proofs.rows.Rows.gather.Goals as goal
 
 pub gather_columns-requires : goal.gather_columns-requires
 gather_columns-requires c =
-    let p : All (λ at. at < c.self.inside.len) c.args.places.now =
+    let p : All (λ at. at < c.self.inside.len) c.args.indexes.now =
     rw (← c.self.view_is, length-rows_of (values_of c.self.inside.columns.items) c.self.inside.len)
     at c.requires in
     rw c.as_slice-2.ensures.value
-    (All-in_columns c.self.inside.len c.self.inside.kinds.items c.self.inside.columns.items c.args.places.now
+    (All-in_columns c.self.inside.len c.self.inside.kinds.items c.self.inside.columns.items c.args.indexes.now
     c.self.invariant p)
 
 pub invariant_of-result : goal.invariant_of-result
 invariant_of-result c =
-    let p : All (λ at. at < c.self.inside.len) c.args.places.now =
+    let p : All (λ at. at < c.self.inside.len) c.args.indexes.now =
     rw (← c.self.view_is, length-rows_of (values_of c.self.inside.columns.items) c.self.inside.len)
     at c.requires in
     rw (
@@ -26,11 +26,11 @@ invariant_of-result c =
       c.as_slice-2.ensures.value,
     )
     (AreColumnsOf-gathered c.self.inside.len c.self.inside.kinds.items c.self.inside.columns.items
-    c.args.places.now c.self.invariant p)
+    c.args.indexes.now c.self.invariant p)
 
 pub returns : goal.returns
 returns c =
-    let p : All (λ at. at < c.self.inside.len) c.args.places.now =
+    let p : All (λ at. at < c.self.inside.len) c.args.indexes.now =
     rw (← c.self.view_is, length-rows_of (values_of c.self.inside.columns.items) c.self.inside.len)
     at c.requires in
     rw (
@@ -41,4 +41,4 @@ returns c =
       ← c.self.view_is,
     )
     (ap (λ rows. record { kinds = c.self.inside.kinds.items; rows = rows })
-    (rows_of-gathered c.self.inside.columns.items c.self.inside.len c.args.places.now p))
+    (rows_of-gathered c.self.inside.columns.items c.self.inside.len c.args.indexes.now p))

@@ -1,0 +1,12 @@
+pub mod AggregateLemmas
+pub mod AnswerLemmas
+pub mod AnswersLemmas
+pub mod CallLemmas
+pub mod GroupLemmas
+pub mod KeyLemmas
+pub mod LeastLemmas
+pub mod OnceLemmas
+pub mod OrderLemmas
+pub mod ShapeLemmas
+pub mod Shuffles
+pub mod ValueOrder

@@ -1,6 +1,0 @@
-use Rattle.std.proofs.Common.{take}
-use Rattle.pj_bind.specs.Binding.{IsUnknown}
-use Rattle.pj_bind.proofs.binding.place_of.Given as goal
-
-abbrev pub invariant-tables : goal.invariant-tables
-invariant-tables l = IsUnknown (take l.place l.tables) l.name

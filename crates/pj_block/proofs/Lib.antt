@@ -1,0 +1,5 @@
+pub mod BlockLemmas
+pub mod ColumnLemmas
+pub mod IndexLemmas
+pub mod RowLemmas
+pub mod TurnedLemmas

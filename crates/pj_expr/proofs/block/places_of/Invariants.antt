@@ -1,6 +1,0 @@
-use Rattle.std.proofs.Common.{◌≡◌, false, get_or}
-use Rattle.std.specs.List.{filter, range_with_len}
-use Rattle.pj_expr.proofs.block.places_of.Given as goal
-
-abbrev pub invariant-loop-at : goal.invariant-loop-at
-invariant-loop-at l = l.places.items ≡ filter (λ at. get_or l.held at false) (range_with_len 0 l.at)

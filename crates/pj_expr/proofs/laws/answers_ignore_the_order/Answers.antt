@@ -1,5 +1,0 @@
-use Rattle.pj_expr.proofs.AnswersLemmas.{answers_ignore_the_order}
-use Rattle.pj_expr.proofs.laws.answers_ignore_the_order.Goals as goal
-
-pub returns : goal.returns
-returns c = answers_ignore_the_order

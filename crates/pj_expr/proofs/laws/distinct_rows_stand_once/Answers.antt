@@ -1,5 +1,0 @@
-use Rattle.pj_expr.proofs.AnswersLemmas.{distinct_rows_stand_once}
-use Rattle.pj_expr.proofs.laws.distinct_rows_stand_once.Goals as goal
-
-pub returns : goal.returns
-returns c = distinct_rows_stand_once

@@ -1,5 +1,0 @@
-use Rattle.pj_expr.proofs.AnswersLemmas.{same_rows_are_equal}
-use Rattle.pj_expr.proofs.laws.same_rows_are_equal.Goals as goal
-
-pub returns : goal.returns
-returns c = same_rows_are_equal

@@ -1,9 +1,0 @@
-use Rattle.std.proofs.Common.{sym}
-use Rattle.pj_expr.specs.Blocks.{of_two}
-use Rattle.pj_expr.proofs.BlockLemmas.{map-replicate}
-use Rattle.pj_expr.proofs.numbers.with_number.Goals as goal
-
-pub returns-in-Same : goal.returns-in-Same
-returns-in-Same c =
-    rw (c.in-Same.is, c.of.ensures)
-    (sym (map-replicate (λ n. of_two c.args.arith n c.args.b) c.args.len c.in-Same.first))

@@ -1,0 +1,4 @@
+pub mod Sets
+pub mod SetLemmas
+pub mod Words
+pub mod Tests

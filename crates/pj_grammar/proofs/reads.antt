@@ -1,0 +1,9 @@
+pub mod Reads
+pub mod Phrases
+pub mod One
+pub mod Then
+pub mod Choice
+pub mod Many
+pub mod Ahead
+pub mod Heads
+pub mod Sequence

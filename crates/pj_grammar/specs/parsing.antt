@@ -1,0 +1,7 @@
+pub mod Parser
+pub mod Words
+pub mod Settings
+pub mod Values
+pub mod Selects
+pub mod Tables
+pub mod Statements

@@ -1,0 +1,11 @@
+use Rattle.std.proofs.Common.{sym, ◌∙◌, arith}
+use Rattle.pj_lex.specs.declared.token.TokenKind.TheVariants as kinds
+use Rattle.pj_grammar.specs.Lexemes.{no_value, is_word, spells}
+use Rattle.pj_insert.proofs.PrefixLemmas.{prefix_one}
+use Rattle.pj_insert.proofs.inserts.keyword.Goals as goal
+
+pub returns-in-Some : goal.returns-in-Some
+returns-in-Some c =
+    prefix_one 0 (is_word (spells c.args.capitals.now)) no_value kinds.Word c.args.bytes.now
+    c.in-Some.word.now c.in-Some.behind.now c.in-Some.ensures (omega arith)
+    (sym c.spells.ensures ∙ c.if-spells.true)

@@ -1,5 +1,0 @@
-use Rattle.pj_legal.proofs.ExampleLemmas.{never_ends}
-use Rattle.pj_legal.proofs.examples.a_statement_may_never_end.Goals as goal
-
-pub returns : goal.returns
-returns c = never_ends

@@ -1,5 +1,0 @@
-use Rattle.pj_legal.proofs.ExampleLemmas.{no_reply_at_the_start}
-use Rattle.pj_legal.proofs.examples.no_reply_stands_where_its_statement_began.Goals as goal
-
-pub returns : goal.returns
-returns c = no_reply_at_the_start

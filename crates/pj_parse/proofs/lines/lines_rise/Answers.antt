@@ -1,5 +1,0 @@
-use Rattle.pj_parse.proofs.LineScripts.{lines_rise}
-use Rattle.pj_parse.proofs.lines.lines_rise.Goals as goal
-
-pub returns : goal.returns
-returns c = lines_rise

@@ -1,5 +1,0 @@
-use Rattle.pj_parse.proofs.LineScripts.{one_reading}
-use Rattle.pj_parse.proofs.lines.one_reading.Goals as goal
-
-pub returns : goal.returns
-returns c = one_reading

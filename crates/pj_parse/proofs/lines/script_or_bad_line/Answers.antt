@@ -1,5 +1,0 @@
-use Rattle.pj_parse.proofs.LineScripts.{script_or_bad_line}
-use Rattle.pj_parse.proofs.lines.script_or_bad_line.Goals as goal
-
-pub returns : goal.returns
-returns c = script_or_bad_line

@@ -1,9 +1,0 @@
-use Rattle.std.proofs.Common.{◌≡◌, ◌-◌}
-use Rattle.pj_parse.specs.ParsingWords.{name_at}
-use Rattle.pj_parse.specs.ParsingTables.{names_at}
-use Rattle.pj_parse.proofs.ManyLoop.{list_going}
-use Rattle.pj_parse.proofs.names.names.Given as goal
-
-abbrev pub invariant-names : goal.invariant-names
-invariant-names l =
-    list_going name_at l.names.items (l._i-end - l._i) l.rest ≡ names_at l.fn.rest

@@ -1,6 +1,0 @@
-use Rattle.std.proofs.Common.{◌≡◌, ◌-◌, replicate}
-use Rattle.pj_parse.specs.GrammarValues.{negated}
-use Rattle.pj_parse.proofs.nots.negated.Given as goal
-
-abbrev pub invariant-nots : goal.invariant-nots
-invariant-nots l = negated (replicate (l.count - l._i) tt) l.tree ≡ negated (replicate l.count tt) l.fn.tree

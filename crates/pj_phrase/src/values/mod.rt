@@ -1,0 +1,3 @@
+//! Values and conditions.
+mod nots;
+pub mod trees;
