@@ -11,8 +11,8 @@ use Rattle.pj_value.specs.Aggregates.{number_in, default, same_value, least, gre
 use Rattle.pj_answer.proofs.Shuffles.{Shuffle, as_long, mapped, permutation}
 use Rattle.std.proofs.lemmas.List.Sorted.{sum_by-IsPermutation}
 use Rattle.pj_answer.proofs.OnceLemmas.{once-shuffled}
-use Rattle.pj_answer.proofs.LeastLemmas.{least_or, least_or-shuffled}
-use Rattle.pj_answer.proofs.ValueOrder.{value_cmp_exact, same_value_decides, IsExactOrder-back}
+use Rattle.pj_answer.proofs.orders.LeastLemmas.{least_or, least_or-shuffled}
+use Rattle.pj_answer.proofs.orders.ValueOrder.{value_cmp_exact, same_value_decides, IsExactOrder-back}
 
 -- a sum doesn't depend on the order
 sum-shuffled : {ns ms : List ℕ} → Shuffle ns ms → sum ns ≡ sum ms

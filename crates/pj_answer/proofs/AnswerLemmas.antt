@@ -17,12 +17,13 @@ use Rattle.pj_value.specs.Rows.{KindedRows, HaveKinds, rows_at}
 use Rattle.pj_expr.specs.declared.query.Item.{Item}
 use Rattle.pj_expr.specs.declared.query.OrderKey.{OrderKey}
 use Rattle.pj_expr.specs.declared.query.Query.{Query}
-use Rattle.pj_answer.specs.Answers.{Outcome, Answers, outcome_of, outcomes_of, groups_of, item_value, item_kind}
+use Rattle.pj_answer.specs.Answers.{Outcome, Answers, outcome_of, outcomes_of, groups_of, item_value}
+use Rattle.pj_answer.specs.Answers.{item_kind}
 use Rattle.pj_answer.specs.Answers.{order_cmp, NeverStepBack, cut}
 use Rattle.pj_expr.specs.Eval.{holds}
 use Rattle.pj_expr.specs.Fits.{FitsItem, FitsQuery, IsOfGroup}
 use Rattle.pj_answer.specs.Rows.{of_kinds, item_row, HasShape, kept_groups, keys_cmp, is_before, first_of}
-use Rattle.pj_answer.proofs.OrderLemmas.{keys_cmp-all}
+use Rattle.pj_answer.proofs.orders.OrderLemmas.{keys_cmp-all}
 use Rattle.pj_block.proofs.RowLemmas.{get_or-map_all, map-same}
 use Rattle.pj_answer.proofs.ShapeLemmas.{HaveKinds-filter, query-shapes}
 
@@ -55,7 +56,8 @@ first_within n None ps a = a
 first_within n (Some most) ps a = All-take (λ k. k < n) most ps a
 
 -- the first of outcomes at indexes
-cut-map : (limit : Option ℕ) (f : ℕ → Outcome) (ps : List ℕ) → cut limit (map f ps) ≡ map f (first_of limit ps)
+cut-map : (limit : Option ℕ) (f : ℕ → Outcome) (ps : List ℕ) → cut limit (map f ps) ≡ map f
+    (first_of limit ps)
 cut-map None f ps = refl
 cut-map (Some n) f ps = take-map f n ps
 
@@ -75,15 +77,18 @@ never_steps_back keys outcomes orders (p ∷ r ∷ ps) long e up a = (
 )
   where
     row : (k : ℕ) → get_or orders k [] ≡ (get_or outcomes k no_outcome).order
-    row k = ap (λ xs. get_or xs k []) e ∙ get_or-map_all (λ (outcome : Outcome). outcome.order) outcomes k no_outcome
+    row k = ap (λ xs. get_or xs k []) e ∙ get_or-map_all (λ (outcome : Outcome). outcome.order) outcomes k
+        no_outcome
 
-    size : (ls : List Outcome) (k : ℕ) → AllByRecursion (λ (outcome : Outcome). length outcome.order ≡ length keys) ls
+    size : (ls : List Outcome) (k : ℕ) → AllByRecursion (λ (outcome : Outcome). length outcome.order
+        ≡ length keys) ls
         → k < length ls → length (get_or ls k no_outcome).order ≡ length keys
     size [] k h l = absurd (omega arith)
     size (x ∷ ls) zero h l = h.0
     size (x ∷ ls) (suc k) h l = size ls k h.1 (omega arith)
 
-    here : is_lt (order_cmp keys (get_or outcomes r no_outcome).order (get_or outcomes p no_outcome).order) ≡ false
+    here : is_lt (order_cmp keys (get_or outcomes r no_outcome).order (get_or outcomes p no_outcome).order)
+        ≡ false
     here =
         let m : p < length outcomes = All-head (λ k. k < length outcomes) p (r ∷ ps) a in
         let n : r < length outcomes =
@@ -98,7 +103,8 @@ never_steps_back keys outcomes orders (p ∷ r ∷ ps) long e up a = (
 
 -- a outcome has one order value for each key
 outcomes_long : (q : Query) (columns : List Kind) (groups : List (List (List Value)))
-    → AllByRecursion (λ (outcome : Outcome). length outcome.order ≡ length q.order) (map (outcome_of columns q) groups)
+    → AllByRecursion (λ (outcome : Outcome). length outcome.order ≡ length q.order) (map
+    (outcome_of columns q) groups)
 outcomes_long q columns [] = tt
 outcomes_long q columns (group ∷ groups) = (length-map q.order _, outcomes_long q columns groups)
 
@@ -113,7 +119,8 @@ answers_from q rows out outs orders ps e f perm up g k =
     record {
       arrangement = map at ps;
       all =
-          let items : map at (range_with_len 0 (length outcomes)) ≡ outcomes = all_items outcomes no_outcome in
+          let items : map at (range_with_len 0 (length outcomes))
+          ≡ outcomes = all_items outcomes no_outcome in
           rw items at (IsPermutation-map at (range_with_len 0 (length outcomes)) ps whole);
       ordered =
           never_steps_back q.order outcomes orders ps (outcomes_long q rows.kinds _) f up
@@ -141,7 +148,8 @@ answers_from q rows out outs orders ps e f perm up g k =
 
 -- what the items give for the groups
 pub outputs_are : (q : Query) (rows : KindedRows)
-    → map (item_row q.items) (kept_groups q rows) ≡ map (λ (outcome : Outcome). outcome.output) (outcomes_of q rows)
+    → map (item_row q.items) (kept_groups q rows) ≡ map (λ (outcome : Outcome). outcome.output)
+    (outcomes_of q rows)
 outputs_are q rows =
     map-map (item_row q.items) (of_kinds rows.kinds) _
     ∙ sym (map-map (λ (outcome : Outcome). outcome.output) (outcome_of rows.kinds q) _)
@@ -149,7 +157,8 @@ outputs_are q rows =
 -- what the keys compare
 pub orders_are : (q : Query) (rows : KindedRows) (items : List Item)
     → items ≡ map (λ (key : OrderKey). key.item) q.order
-    → map (item_row items) (kept_groups q rows) ≡ map (λ (outcome : Outcome). outcome.order) (outcomes_of q rows)
+    → map (item_row items) (kept_groups q rows) ≡ map (λ (outcome : Outcome). outcome.order)
+    (outcomes_of q rows)
 orders_are q rows items e =
     ap (λ is. map (item_row is) (kept_groups q rows)) e
     ∙ map-map (item_row (map (λ (key : OrderKey). key.item) q.order)) (of_kinds rows.kinds) _

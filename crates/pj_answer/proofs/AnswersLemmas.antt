@@ -16,7 +16,7 @@ use Rattle.pj_answer.specs.Answers.{first_row, item_kind, outcome_of, outcomes_o
 use Rattle.pj_answer.specs.Laws.{AnswersIgnoreTheOrder, SameRowsAreEqual, DistinctRowsStandOnce}
 use Rattle.pj_answer.proofs.Shuffles.{Shuffle, same, mapped, filtered, as_long, from_permutation, permutation}
 use Rattle.pj_answer.proofs.OnceLemmas.{once-shuffled, has-once, IsDistinct-once}
-use Rattle.pj_answer.proofs.ValueOrder.{same_row_decides}
+use Rattle.pj_answer.proofs.orders.ValueOrder.{same_row_decides}
 use Rattle.pj_answer.proofs.GroupLemmas.{outcome_of-shuffled}
 
 -- ---- rows once each
@@ -127,7 +127,8 @@ module _ (columns : List Kind) (q : Query) (rs ss : List Row) (moved : Shuffle r
   outcomes-shuffled = by (aggregates_rows q) refl (is_grouped q.groups) refl
     where
       by : (a : Bool) → aggregates_rows q ≡ a → (b : Bool) → is_grouped q.groups ≡ b
-          → Shuffle (outcomes columns q (groups q.groups a b rs)) (outcomes columns q (groups q.groups a b ss))
+          → Shuffle (outcomes columns q (groups q.groups a b rs)) (outcomes columns q
+          (groups q.groups a b ss))
       by false e b f = mapped (outcome_of columns q) (mapped (λ row. row ∷ []) moved)
       by true e true f = grouped-shuffled e
       by true e false f = whole-shuffled e f

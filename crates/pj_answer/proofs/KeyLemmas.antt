@@ -22,7 +22,7 @@ use Rattle.pj_answer.specs.Groups.{values_for, comes_again, last_indexes, group_
 use Rattle.pj_answer.proofs.OnceLemmas.{has-once}
 use Rattle.pj_block.proofs.IndexLemmas.{filter-same, kept-indexes}
 use Rattle.pj_block.proofs.RowLemmas.{map-same}
-use Rattle.pj_answer.proofs.ValueOrder.{same_row_decides}
+use Rattle.pj_answer.proofs.orders.ValueOrder.{same_row_decides}
 
 -- ---- distinct rows, by their indexes
 

@@ -4,9 +4,7 @@ pub mod AnswersLemmas
 pub mod CallLemmas
 pub mod GroupLemmas
 pub mod KeyLemmas
-pub mod LeastLemmas
+pub mod orders
 pub mod OnceLemmas
-pub mod OrderLemmas
 pub mod ShapeLemmas
 pub mod Shuffles
-pub mod ValueOrder

@@ -1,4 +1,5 @@
-//! Right answers of a query, as the definition has them: the item_rows of all groups, sorted whole and then cut.
+//! Right answers of a query, as the definition has them: the item_rows of all groups, sorted whole and then
+//! cut.
 ghost use Rattle.std.specs.Prelude.{◌≡◌, ◌∷◌, [], IfOk, map};
 ghost use Rattle.std.specs.List.{AllByRecursion};
 ghost use Rattle.pj_expr.specs.Fits.{FitsCond, FitsExpr, FitsQuery};

@@ -12,7 +12,7 @@ use pj_value::{Cell, NoMemory, Rows, cell_cmp};
 use std::alloc::Global;
 use std::cmp::Ordering;
 
-/// The indexes of the order rows, sorted. Rows that are equal keep their order.
+/// The indexes of the order rows, sorted.
 pub(crate) fn arranged(
     alloc: Global,
     keys: &[OrderKey],

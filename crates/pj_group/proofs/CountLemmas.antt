@@ -60,7 +60,8 @@ no_groups (e ∷ es) h = absurd (true≢false (sym h))
 built : (columns : List Kind) (q : Query) → FitsQuery columns q → aggregates_rows q ≡ true
     → not (is_grouped q.groups) ≡ true → AllByRecursion (IsOfGroup []) q.items
 built columns q f a g =
-    subst (λ (es : List Expr). AllByRecursion (IsOfGroup es) q.items) (no_groups q.groups g) (f.groups.items a)
+    subst (λ (es : List Expr). AllByRecursion (IsOfGroup es) q.items) (no_groups q.groups g)
+    (f.groups.items a)
 
 module _ (columns : List Kind) (row : Row) (n : ℕ) where
   -- what an item gives is of its kind
@@ -109,7 +110,8 @@ cut-outcome : (limit : Option ℕ) (outcome : Outcome)
 cut-outcome None outcome = refl
 cut-outcome (Some zero) outcome = refl
 cut-outcome (Some (suc n)) outcome =
-    ap (λ (ls : List Outcome). outcome.output ∷ map (λ (l : Outcome). l.output) ls) (sym (take_all n [] (omega arith)))
+    ap (λ (ls : List Outcome). outcome.output ∷ map (λ (l : Outcome). l.output) ls) (sym (take_all n []
+    (omega arith)))
 
 -- what the items give is of their kinds
 pub kinds-counts : (columns : List Kind) (row : Row) (n : ℕ) (q : Query) → FitsQuery columns q

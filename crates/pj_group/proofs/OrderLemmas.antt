@@ -1,54 +1,22 @@
 -- The order of rows by keys, and the outcomes that stand in it.
-use Rattle.std.proofs.Common.{◌≡◌, ℕ, ◌+◌, ◌<◌, Bool, true, false, List, [], ◌∷◌, length, map, get_or, drop}
-use Rattle.std.proofs.Common.{replicate}
-use Rattle.std.proofs.Common.{refl, sym, ap, ◌∙◌, subst}
-use Rattle.std.specs.Ordering.{ordering_then, ordering_reverse, flip_args}
+use Rattle.std.proofs.Common.{◌≡◌, ℕ, ◌+◌, ◌<◌, List, [], ◌∷◌, length, map, get_or, drop, replicate, sym, ap}
+use Rattle.std.proofs.Common.{◌∙◌}
+use Rattle.std.specs.Ordering.{ordering_then}
 use Rattle.std.specs.Cmp.{IsTotalOrder, IsStrictWeakOrder}
-use Rattle.std.specs.declared.cmp.Ordering.{Ordering}
-use Rattle.std.specs.declared.cmp.Ordering.TheVariants.{Less, Equal, Greater}
-use Rattle.std.proofs.lemmas.Cmp.{on_total, then_total, back_total, tied_itself}
+use Rattle.std.specs.declared.cmp.Ordering.TheVariants.{Equal}
+use Rattle.std.proofs.lemmas.Cmp.{on_total, then_total, tied_itself}
 use Rattle.std.proofs.lemmas.List.{drop_more, get_or-replicate}
 use Rattle.std.proofs.lemmas.List.Sorted.{ranks_by}
 use Rattle.pj_value.specs.declared.value.Value.{Value}
 use Rattle.pj_value.specs.declared.value.Value.TheVariants as values
 use Rattle.pj_value.specs.Order.{value_cmp}
-use Rattle.pj_expr.specs.declared.expr.Expr.TheVariants as exprs
-use Rattle.pj_expr.specs.declared.query.Item.TheVariants.{Plain}
-use Rattle.pj_expr.specs.declared.query.OrderKey.{OrderKey}
+use Rattle.pj_value.proofs.OrderLemmas.{value_total}
 use Rattle.pj_answer.specs.Answers.{turned}
-use Rattle.pj_answer.proofs.OrderLemmas.{keys_total}
+use Rattle.pj_answer.proofs.orders.OrderLemmas.{turned_total, none_total}
 use Rattle.pj_group.specs.declared.keys.Key.{Key}
 use Rattle.pj_group.specs.Indexes.{KeyValues, key_values, values_cmp, indexes_cmp, is_before}
 
 -- ---- one total order
-
--- an order that nothing follows
-then_none : (r : Ordering) → ordering_then r Equal ≡ r
-then_none Less = refl
-then_none Equal = refl
-then_none Greater = refl
-
--- a rising key
-abbrev rising : OrderKey
-rising = record { item = Plain (exprs.Num 0); descending = false }
-
--- values stand in one order
-value_total : IsTotalOrder value_cmp
-value_total =
-    subst IsTotalOrder (λ i x y. then_none (value_cmp x y) i)
-    (keys_total (λ (v : Value). v ∷ []) (rising ∷ []) 0)
-
--- turned round or not, an order is one
-turned_total : {X : Type 0} (R : X → X → Ordering) (descending : Bool) → IsTotalOrder R
-    → IsTotalOrder (λ x y. turned descending (R x y))
-turned_total R false o = o
-turned_total R true o =
-    let e : flip_args R ≡ (λ x y. ordering_reverse (R x y)) = λ i x y. o.antisymm y x i in
-    subst IsTotalOrder e (back_total o)
-
--- indexes with no key never differ
-none_total : {X : Type 0} → IsTotalOrder {K = X} (λ x y. Equal)
-none_total = record { antisymm = λ x y. refl; trans = λ x y z p q. p; congr = λ x y z p. refl }
 
 -- indexes stand in one order by their keys
 pub indexes_total : (keys : List KeyValues) → IsTotalOrder (λ x y. indexes_cmp keys x y)
@@ -79,9 +47,3 @@ indexes_cmp-more keys i key a b l e =
     ap (λ ks. indexes_cmp (map key_values ks) a b) (drop_more keys i key l)
     ∙ ap (λ (k : Key). ordering_then (turned k.descending (values_cmp (key_values k).values a b))
     (indexes_cmp (map key_values (drop (i + 1) keys)) a b)) (sym e)
-
--- a key in which they differ decides
-pub then-decided : (r s : Ordering) → (r ≡ Equal → ⊥) → ordering_then r s ≡ r
-then-decided Less s n = refl
-then-decided Equal s n = absurd (n refl)
-then-decided Greater s n = refl

@@ -137,7 +137,8 @@ module _ (q : Query) (rows : KindedRows) where
       )
 
   -- the first of the outcomes
-  cut-outcomes : (limit : Option ℕ) (ps : List ℕ) → cut limit (map outcome ps) ≡ map outcome (first_of limit ps)
+  cut-outcomes : (limit : Option ℕ) (ps : List ℕ) → cut limit (map outcome ps) ≡ map outcome
+      (first_of limit ps)
   cut-outcomes None ps = refl
   cut-outcomes (Some n) ps = take-map outcome n ps
 

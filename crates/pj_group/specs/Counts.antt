@@ -1,4 +1,5 @@
--- The answer of a query that counts rows and gives nothing else but literals. No public contract cites this file.
+-- The answer of a query that counts rows and gives nothing else but literals. No public contract cites this
+-- file.
 use Rattle.std.specs.Prelude.{ℕ, zero, suc, Bool, true, false, ◌&&◌, not, if◌then◌else◌}
 use Rattle.std.specs.Prelude.{[], ◌∷◌, map, Option, Some, None, is_none}
 use Rattle.std.specs.List.{list_all}

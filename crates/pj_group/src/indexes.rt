@@ -40,8 +40,7 @@ fn all_indexes(alloc: Global, len: usize) -> Result<Vec<usize>, NoMemory>
     Ok(indexes)
 }
 
-/// The first of these indexes of rows in the order of ORDER BY, as many as LIMIT says. Rows that no key tells
-/// apart keep their order.
+/// The first of these indexes of rows in the order of ORDER BY, as many as LIMIT says.
 pub(crate) fn first_indexes(
     alloc: Global,
     keys: &[OrderKey],
@@ -68,7 +67,8 @@ fn first_by(
     keys: &[Key<'_>],
     limit: Option<u64>,
 ) -> Result<Vec<usize>, NoMemory>
-    ensures { IfOk result (λ ps. AreFirst (is_before (map key_values keys.now)) limit indexes.items ps.items) }
+    ensures { IfOk result
+        (λ ps. AreFirst (is_before (map key_values keys.now)) limit indexes.items ps.items) }
 {
     match limit {
         Some(0) => Ok(Vec::new(alloc)),

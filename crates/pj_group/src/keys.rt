@@ -97,7 +97,8 @@ fn compare_values(values: &Values<'_>, a: usize, b: usize) -> Ordering
     }
 }
 
-/// How the one value of so many rows stands to itself at two indexes. It is not looked at where both are rows.
+/// How the one value of so many rows stands to itself at two indexes. It is not looked at where both are
+/// rows.
 fn compare_same(cell: Cell<'_>, len: usize, a: usize, b: usize) -> Ordering
     ensures { result ≡ values_cmp (replicate len (value_of cell.entry)) a b }
 {

@@ -22,7 +22,7 @@ struct Best {
 }
 
 /// The first of these indexes in the order of keys, as many as asked for. Most indexes are compared with one
-/// other alone, and the rest are sorted a few at a time. At equal keys the first indexes stay, in their order.
+/// other alone, and the rest are sorted a few at a time.
 pub(crate) fn least_indexes(
     alloc: Global,
     indexes: &[usize],
@@ -102,13 +102,14 @@ fn last_of(indexes: &[usize], most: u64) -> Option<usize>
     }
 }
 
-/// These indexes, sorted by keys and cut to as many as LIMIT says. At equal keys they keep their order.
+/// These indexes, sorted by keys and cut to as many as LIMIT says.
 pub(crate) fn first_sorted(
     mut indexes: Vec<usize>,
     keys: &[Key<'_>],
     limit: Option<u64>,
 ) -> Result<Vec<usize>, NoMemory>
-    ensures { IfOk result (λ ps. AreFirst (is_before (map key_values keys.now)) limit indexes.items ps.items) }
+    ensures { IfOk result
+        (λ ps. AreFirst (is_before (map key_values keys.now)) limit indexes.items ps.items) }
 {
     indexes.sort_by(|a, b| compare(keys, *a, *b))?;
     Ok(cut_to(indexes, limit))

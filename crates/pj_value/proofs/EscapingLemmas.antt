@@ -1,6 +1,7 @@
 -- Facts about texts as they are written.
 use Rattle.std.proofs.Common.{◌≡◌, ℕ, ◌+◌, List, [], ◌∷◌, ◌++◌, take, drop, length, refl, ap, sym, ◌∙◌}
-use Rattle.std.proofs.Common.{take-append-drop, Bool, true, false, if◌then◌else◌, ◌==◌, cond, append_assoc, suc, arith}
+use Rattle.std.proofs.Common.{take-append-drop, Bool, true, false, if◌then◌else◌, ◌==◌, cond, append_assoc}
+use Rattle.std.proofs.Common.{suc, arith}
 use Rattle.std.specs.List.{prefix_len}
 use Rattle.std.proofs.Math.Seq.{take-add, take-length}
 use Rattle.std.proofs.lemmas.List.{take_at}

@@ -1,4 +1,5 @@
 pub mod Values
+pub mod TextLayout
 pub mod Columns
 pub mod Rows
 pub mod Order

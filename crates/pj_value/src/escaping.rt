@@ -1,4 +1,5 @@
-//! How a text is written in a text line of output: a tab ends a value and a line feed a row. And how one is read.
+//! How a text is written in a text line of output: a tab ends a value and a line feed a row. And how one is
+//! read.
 ghost use Rattle.std.specs.Prelude.{◌≡◌, ◌<◌, ◌≤◌, ℕ, ◌++◌, drop, length, slice_index, take};
 ghost use Rattle.std.specs.Prelude.{IfOk, IfSome, IsNone, OnOk, OnErr};
 ghost use Rattle.std.specs.List.{prefix_len};
@@ -11,8 +12,8 @@ use crate::memory::{NoMemory, UnescapeFault};
 use crate::text::Text;
 use std::alloc::Global;
 
-/// Writes a text behind what `out` holds. After an error `out` holds a part of it.
-// Inlined where values are told apart, it would save its registers for each number too.
+/// Writes a text behind what `out` holds. After an error `out` holds a part of it. It is never inlined: where
+/// values are told apart it would save its registers for each number too.
 #[inline(never)]
 pub fn escape(text: &[u8], out: &mut Vec<u8>) -> Result<(), NoMemory>
     ensures ok { OnOk result (out.new.items ≡ out.old.items ++ escaped text.now) }

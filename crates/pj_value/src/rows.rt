@@ -109,8 +109,8 @@ impl Rows {
     }
 
     /// Adds a copy of the row behind the others, in amortised constant time for each value beside the copies
-    /// of texts. The shape is tested before any memory is taken. More rows than a word can count are refused as out of
-    /// memory: no memory holds as many, unless they have no columns.
+    /// of texts. The shape is tested before any memory is taken. More rows than a word can count are refused
+    /// as out of memory: no memory holds as many, unless they have no columns.
     pub fn push(&mut self, row: &[Value]) -> Result<(), PushFault>
         ensures added { OnOk result (self.new ≡ record self.old { rows = self.old.rows ++ row.now ∷ [] }) }
         ensures fits { OnOk result (map kind_of row.now ≡ self.old.kinds) }

@@ -71,7 +71,7 @@ impl Value {
         }
     }
 
-    /// The same value, which owns its text. A number takes no memory.
+    /// The same value, which owns its text. A number, and a text of at most 23 bytes, take no memory.
     pub fn duplicate(&self, alloc: Global) -> Result<Value, NoMemory>
         ensures { IfOk result (λ v. v ≡ self.now) }
     {
@@ -83,7 +83,8 @@ impl Value {
 }
 
 impl<'a> Cell<'a> {
-    /// The value that is lent, with a copy of its text. A number takes no memory.
+    /// The value that is lent, with a copy of its text. A number, and a text of at most 23 bytes, take no
+    /// memory.
     pub fn to_value(self, alloc: Global) -> Result<Value, NoMemory>
         ensures { IfOk result (λ v. v ≡ value_of self.entry) }
     {

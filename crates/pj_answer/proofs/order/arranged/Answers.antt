@@ -2,7 +2,7 @@ use Rattle.std.proofs.Common.{ℕ, [], get_or, rules}
 use Rattle.std.proofs.lemmas.List.Sorted.{ranks_by}
 use Rattle.std.proofs.lemmas.Fn.{always_returns_same}
 use Rattle.pj_answer.specs.Rows.{is_before}
-use Rattle.pj_answer.proofs.OrderLemmas.{keys_total}
+use Rattle.pj_answer.proofs.orders.OrderLemmas.{keys_total}
 use Rattle.pj_answer.proofs.order.arranged.Goals as goal
 
 pub returns-clause-sorted : goal.returns-clause-sorted

@@ -20,7 +20,8 @@ returns c =
     let first = c.in_ok-first.ensures in
     let indexes = c.as_slice-3.ensures.value ∙ first.first in
     let items = c.as_slice-2.ensures in
-    answers-indexes q rows c.in_ok-out.out kept first.arrangement c.requires.separate c.in_ok-kept.ensures.rows
+    answers-indexes q rows c.in_ok-out.out kept first.arrangement c.requires.separate
+    c.in_ok-kept.ensures.rows
     (arranged-within (length rows.rows) kept first.arrangement c.in_ok-kept.ensures.within first.all)
     first.all (rw c.as_slice.ensures at first.ordered)
     (c.in_ok-out.ensures ∙ (λ i. outputs_of (chosen rows (indexes i)) (items i)))

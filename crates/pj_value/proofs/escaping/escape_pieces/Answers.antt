@@ -16,7 +16,8 @@ pieces-preserved-then-at-end c =
     let at = c.pieces.at in
     let rest : take (length text - at) (drop at text) ≡ drop at text = take_rest text at in
     let len : at + c.plain_len.result - at ≡ c.plain_len.result = omega arith in
-    let run : c.extend_from_slice.new.self.items ≡ c.pieces.out.items ++ take c.plain_len.result (drop at text) =
+    let run : c.extend_from_slice.new.self.items ≡ c.pieces.out.items ++ take c.plain_len.result
+    (drop at text) =
     c.in_ok-extend_from_slice.ensures.items
     ∙ ap (λ k. c.pieces.out.items ++ take k (drop at text)) len in
     record {

@@ -11,7 +11,7 @@ use Rattle.pj_value.specs.declared.value.Value.TheVariants as values
 use Rattle.pj_value.specs.Order.{value_cmp}
 use Rattle.pj_value.specs.Aggregates.{same_value}
 use Rattle.pj_answer.specs.Answers.{same_row}
-use Rattle.pj_answer.proofs.LeastLemmas.{IsExactOrder}
+use Rattle.pj_answer.proofs.orders.LeastLemmas.{IsExactOrder}
 use Rattle.pj_answer.proofs.OnceLemmas.{DecidesEqual}
 
 -- ---- orders that tie equal elements alone

@@ -1,0 +1,3 @@
+pub mod OrderLemmas
+pub mod ValueOrder
+pub mod LeastLemmas
