@@ -44,7 +44,8 @@ sentence_deeper depth (suc deep) le ts s phrase =
 pub one_statement : OneStatement
 one_statement ts a b (d, phrase) (d', phrase') =
     (sentences 0 (d + d') (omega arith)).plain.one ts a b
-    (sentence_deeper d (d + d') (omega arith) ts a phrase) (sentence_deeper d' (d + d') (omega arith) ts b phrase')
+    (sentence_deeper d (d + d') (omega arith) ts a phrase) (sentence_deeper d' (d + d')
+    (omega arith) ts b phrase')
 
 -- lexemes that begin a sentence, and fewer
 begins_fewer : (front back : List Lexeme) → Begins (front ++ back) → Begins front
@@ -80,11 +81,11 @@ AtEach ts answer = (depth : ℕ) → length ts ≤ depth → IsExact (sentence (
 at_each : (ts : List Lexeme) → AtEach ts (sentence_at (value_at (length ts)) ts)
 at_each ts depth le = (sentences (length ts) depth le).exact ts (omega arith)
 
--- two fronts of one list with one rest are the same
+-- two prefixes of one list with one rest are the same
 same_front : (ts a b rest : List Lexeme) → ts ≡ a ++ rest → ts ≡ b ++ rest → a ≡ b
 same_front ts a b rest e h = append_cancel_right a b rest (sym e ∙ h)
 
--- one lexeme more than a front
+-- one lexeme more than a prefix
 take_one_more : (read : List Lexeme) (t : Lexeme) (us : List Lexeme)
     → take (suc (length read)) (read ++ t ∷ us) ≡ read ++ t ∷ []
 take_one_more read t us =
@@ -93,10 +94,12 @@ take_one_more read t us =
 
 module _ (ts read rest : List Lexeme) (all : ts ≡ read ++ rest)
     (stops : (depth : ℕ) → length ts ≤ depth → Stops (sentence (value_to depth)) read rest)
-    (none : (depth : ℕ) → length ts ≤ depth → (s : Statement) → rest ≡ [] → sentence (value_to depth) read s → ⊥)
+    (none : (depth : ℕ) → length ts ≤ depth → (s : Statement) → rest ≡ [] → sentence (value_to depth) read s
+    → ⊥)
   where
     -- no sentence begins with what was read and the next lexeme
-    no_more : (t : Lexeme) (us more : List Lexeme) (s : Statement) → rest ≡ t ∷ us → IsStatement (read ++ t ∷ more) s
+    no_more : (t : Lexeme) (us more : List Lexeme) (s : Statement) → rest ≡ t ∷ us → IsStatement (read
+        ++ t ∷ more) s
         → ⊥
     no_more t us more s is (d, phrase) =
         stops (d + length ts) (omega arith) t us is more s

@@ -131,10 +131,11 @@ may_name_list bytes = may_name bytes && not (names_function bytes)
 abbrev pub is_not_if : List ℕ → Bool
 is_not_if bytes = not (spells (codes "IF") bytes)
 
--- a name where the keyword IF may stand, and one before a parenthesis
+-- a name where the keyword IF may stand
 abbrev pub may_name_but_if : List ℕ → Bool
 may_name_but_if bytes = may_name bytes && is_not_if bytes
 
+-- a name before a parenthesis, where the keyword IF may stand
 abbrev pub may_name_list_but_if : List ℕ → Bool
 may_name_list_but_if bytes = may_name_list bytes && is_not_if bytes
 
@@ -163,3 +164,11 @@ is_any_text = is_text (λ t. true)
 -- the text exactly
 abbrev pub is_text_exactly : List ℕ → Lexeme → Bool
 is_text_exactly bytes = is_text (λ t. same t bytes)
+
+-- the word of an aggregate function
+abbrev pub is_aggregate : Lexeme → Bool
+is_aggregate lexeme =
+    is_keyword (codes "COUNT") lexeme
+    || (is_keyword (codes "SUM") lexeme
+    || (is_keyword (codes "MIN") lexeme ||
+    (is_keyword (codes "MAX") lexeme || is_exactly (codes "uniqExact") lexeme)))

@@ -23,8 +23,8 @@ HasTooMany ts = (tokens_limit < length ts) × (BeginsInsert ts → ⊥)
 abbrev pub Begins : List Lexeme → Type 0
 Begins ts = (more : List Lexeme) × (statement : Statement) × IsStatement (ts ++ more) statement
 
--- so many lexemes begin a statement, and with the next one they don't; where there is no next one, they are no
--- statement
+-- so many lexemes begin a statement, and with the next one they don't; where there is no next one, they are
+-- no statement
 pub record IsErrorIndex (ts : List Lexeme) (count : ℕ) : Type 0 where
   pub within : count ≤ length ts
   pub before : Begins (take count ts)

@@ -1,5 +1,5 @@
-//! What a statement is: the rules of docs/GRAMMAR.md over lexemes, how they are read from the left, and the laws that no body
-//! is two statements and none has two indexes of an error.
+//! What a statement is: the rules of docs/GRAMMAR.md over lexemes, how they are read from the left, and the
+//! laws that no body is two statements and none has two indexes of an error.
 #![tactic(auto)]
 
 mod laws;

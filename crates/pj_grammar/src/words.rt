@@ -4,7 +4,7 @@ ghost use Rattle.std.specs.List.{list_any};
 ghost use Rattle.pj_lex.specs.Bytes.{upper};
 ghost use Rattle.pj_grammar.specs.Lexemes.{word, same, spells, may_name, names_function, is_not_if};
 ghost use Rattle.pj_grammar.specs.Lexemes.{may_name_list};
-ghost use Rattle.pj_grammar.specs.parsing.Selects.{is_aggregate};
+ghost use Rattle.pj_grammar.specs.Lexemes.{is_aggregate};
 
 /// The words that are no names.
 const RESERVED: [&[u8]; 15] = [

@@ -1,3 +1,2 @@
-pub mod TokenPlaces
-pub mod SyntaxPlaces
-pub mod MembersLoop
+pub mod TokenOffsets
+pub mod SyntaxOffsets

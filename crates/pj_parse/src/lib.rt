@@ -1,11 +1,6 @@
 //! Reads the statements of bodies, exactly as docs/GRAMMAR.md has them; scripts are read by `pj_script`.
 #![tactic(auto)]
 
-mod actions;
-mod creates;
-mod row_lists;
-mod selects;
-mod statements;
 pub mod types;
 mod whole;
 

@@ -7,11 +7,11 @@ ghost use Rattle.pj_grammar.specs.SyntaxErrors.{BeginsInsert, HasTooMany, offset
 ghost use Rattle.pj_grammar.specs.parsing.Statements.{whole_sentence};
 ghost use Rattle.pj_parse.specs.Whole.{GivesWhole};
 
-use crate::statements::sentence;
 use pj_grammar::types::Statement;
 use pj_grammar::words::spells;
 use pj_lex::Token;
 use pj_phrase::tokens::rest::{Fault, Next, Rest};
+use pj_sentence::statements::sentence;
 use std::alloc::Global;
 use thiserror::Error;
 

@@ -1,7 +1,7 @@
 -- A loop that reads an item each turn reads what `many_with` reads.
 -- What it has so far and the items that are still read make the whole.
 use Rattle.std.proofs.Common.{◌≡◌, ℕ, zero, suc, Bool, true, false, List, [], ◌∷◌, ◌++◌, replicate, Ok, Err}
-use Rattle.std.proofs.Common.{refl, sym, ap, ◌∙◌, append_assoc}
+use Rattle.std.proofs.Common.{refl, sym, ap, ◌∙◌, append_assoc, if◌then◌else◌}
 use Rattle.std.specs.Prelude.{fold}
 use Rattle.std.proofs.lemmas.List.{append-nil}
 use Rattle.pj_lex.specs.declared.token.Symbol.TheVariants.{Comma}
@@ -11,7 +11,7 @@ use Rattle.pj_phrase.specs.declared.tokens.rest.Fault.{Fault}
 use Rattle.pj_phrase.specs.declared.tokens.rest.Fault.TheVariants as faults
 use Rattle.pj_grammar.specs.Lexemes.{Lexeme, is_symbol}
 use Rattle.pj_grammar.specs.grammar.Values.{negated}
-use Rattle.pj_grammar.specs.parsing.Parser.{Answer, Parser, after, begins, many_with}
+use Rattle.pj_grammar.specs.parsing.Parser.{Answer, Parser, after, one_at, begins, many_with}
 use Rattle.pj_grammar.specs.parsing.Words.{sign_at, behind_at}
 use Rattle.pj_phrase.specs.Given.{Fails}
 
@@ -46,6 +46,15 @@ pub going-step_behind : {A B : Type 0} (make next : List A → B) (n m : ℕ) (t
     → going next (many_with m test (behind_at first parser) vs) ≡ whole
 going-step_behind make next n m test first parser ts us vs a whole so_far e fuel goes one two =
     going-step make next n m test (behind_at first parser) ts vs a whole so_far e fuel goes (rw one two)
+
+-- a lexeme that passes the test is read by it
+pub begun-fails : {A B : Type 0} (test : Lexeme → Bool) (view : Lexeme → A) (ts : List Lexeme) (fault : Fault)
+    (whole : Answer B) → begins test ts ≡ true → Fails fault (one_at test view ts) → Fails fault whole
+unfolding one_at begins
+begun-fails test view [] fault whole begun fails = absurd cc
+begun-fails test view (t ∷ ts) (faults.Stuck rest) whole begun fails =
+    absurd (let read = rw begun at fails in cc)
+begun-fails test view (t ∷ ts) faults.NoMemory whole begun fails = tt
 
 -- ---- lists
 

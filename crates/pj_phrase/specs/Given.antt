@@ -1,5 +1,5 @@
--- What the code of a reader gives, beside what the parser on lists does. No contract of `pj_parse` that others
--- cite rests on this file.
+-- What the code of a reader gives, beside what the parser on lists does. Of public contracts those of
+-- `pj_phrase` and `pj_sentence` alone cite it.
 use Rattle.std.specs.Prelude.{◌≡◌, List, [], ◌∷◌, Option, Some, None, Result, Ok, Err}
 use Rattle.pj_phrase.specs.declared.tokens.rest.Next.{Next}
 use Rattle.pj_phrase.specs.declared.tokens.rest.Next.TheVariants as nexts
@@ -20,7 +20,7 @@ abbrev pub IsNext : Option (Next × List Lexeme) → List Lexeme → Type 0
 IsNext None ts = ts ≡ []
 IsNext (Some x) ts = ts ≡ seen x.0 ∷ x.1
 
--- a parser is stuck where the code is; where memory runs out it may do anything
+-- a parser is stuck where the code is; where it is out of memory it may do anything
 abbrev pub Fails : {A : Type 0} → Fault → Answer A → Type 0
 Fails (faults.Stuck rest) read = read ≡ Err rest
 Fails faults.NoMemory read = Unit {0}
@@ -30,7 +30,7 @@ abbrev pub Gives : {X A : Type 0} → (X → A × List Lexeme) → Result X Faul
 Gives view (Ok x) read = read ≡ Ok (view x)
 Gives view (Err fault) read = Fails fault read
 
--- a list's code gives a list
+-- what is left, where the parser gives no value
 abbrev pub nothing_and : List Lexeme → Unit {0} × List Lexeme
 nothing_and rest = (tt, rest)
 

@@ -1,6 +1,6 @@
--- Kinds of lexemes: the finest classes that the tests of the grammar tell apart, as numbers, and sets of them. No
--- number is written down: the kind of a word, a text or a symbol comes of its index in a list, so a new word is a
--- change of its list alone.
+-- Kinds of lexemes: the finest classes that the tests of the grammar tell apart, as numbers, and sets of
+-- them. No number is written down: the kind of a word, a text or a symbol comes of its index in a list, so a
+-- new word is a change of its list alone.
 use Prim.Native.String.{String}
 use Rattle.std.proofs.Common.{ℕ, zero, suc, ◌+◌, Bool, true, false, cond}
 use Rattle.std.proofs.Common.{ltb, eqb, leb, List, [], ◌∷◌, ◌++◌, map, length}

@@ -46,7 +46,8 @@ steps false false p q n under e = inr (omega arith, omega arith)
 
 -- texts of one index in a list are equal
 index_of_one :
-    (texts : List (List ℕ)) (a b : List ℕ) → index_of texts a < length texts → index_of texts a ≡ index_of texts b
+    (texts : List (List ℕ)) (a b : List ℕ) → index_of texts a < length texts → index_of texts a
+    ≡ index_of texts b
     → a ≡ b
 index_of_one [] a b under e = absurd (omega arith)
 index_of_one (one ∷ more) a b under e =
@@ -62,7 +63,8 @@ pub same_index :
 same_index texts a b under =
     one_test (same a b) (eqb (index_of texts a) (index_of texts b))
     (λ e. eq-eqb _ _ (ap (index_of texts) (same_true a b e)))
-    (λ e. same_is a b (sym (index_of_one texts b a under (sym (eqb-true (index_of texts a) (index_of texts b) e)))))
+    (λ e. same_is a b (sym (index_of_one texts b a under (sym (eqb-true (index_of texts a)
+    (index_of texts b) e)))))
 
 -- ---- tests of words
 
@@ -87,7 +89,8 @@ keyword_tells capitals known bytes =
     let above = index_of keywords (map upper bytes) in
     let under = ltb-true (index_of keywords capitals) keyword_count known in
     same_index keywords (map upper bytes) capitals under
-    ∙ sym (word_kind_keyword keyword_count above (index_of exact_words bytes) (index_of keywords capitals) under)
+    ∙ sym (word_kind_keyword keyword_count above (index_of exact_words bytes)
+    (index_of keywords capitals) under)
 
 -- behind the keywords, the kind of a word that is read exactly is its index, and no other word has it
 word_kind_exact :

@@ -4,7 +4,7 @@ use Rattle.std.proofs.Common.{Err, if◌then◌else◌, refl, sym, ap, ◌∙◌
 use Rattle.std.proofs.lemmas.Bool.{and_parts, or_left, or_right}
 use Rattle.pj_grammar.specs.Lexemes.{Lexeme}
 use Rattle.pj_grammar.specs.grammar.Ebnf.{Grammar, ◌or◌}
-use Rattle.pj_grammar.specs.parsing.Parser.{Answer, Parser, begins_both, ahead_at}
+use Rattle.pj_grammar.specs.parsing.Parser.{Answer, Parser, begins, begins_both, ahead_at}
 use Rattle.pj_grammar.proofs.kinds.Sets.{Kinds, kind_of, ◌∪◌}
 use Rattle.pj_grammar.proofs.reads.Phrases.{or_widens}
 use Rattle.pj_grammar.proofs.reads.Reads.{Stops, IsExact, left, Plain, Reads}
@@ -21,6 +21,7 @@ pub record BeginsBoth (test other : Lexeme → Bool) (ts : List Lexeme) : Type 0
 -- what the test of two lexemes means
 both-begin : (test other : Lexeme → Bool) (ts : List Lexeme) → begins_both test other ts ≡ true
     → BeginsBoth test other ts
+unfolding begins begins_both
 both-begin test other [] yes' = absurd cc
 both-begin test other (t ∷ []) yes' =
     absurd (let parts = and_parts (test t) false yes' in let no' = parts.1 in cc)
@@ -31,9 +32,10 @@ both-begin test other (t ∷ u ∷ ts) yes' =
 -- and the other way round
 begin-both : (test other : Lexeme → Bool) (ts : List Lexeme) → BeginsBoth test other ts
     → begins_both test other ts ≡ true
+unfolding begins begins_both
 begin-both test other ts b = rw (b.all, b.passes, b.next_passes) refl
 
--- with two lexemes in front, they begin a front that is long enough
+-- with two lexemes in front, they begin a prefix that is long enough
 begins-front : (test other : Lexeme → Bool) (s s' : Lexeme) (u w : List Lexeme)
     → BeginsBoth test other (s ∷ s' ∷ u)
     → BeginsBoth test other (s ∷ s' ∷ w)

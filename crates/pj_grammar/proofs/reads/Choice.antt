@@ -5,7 +5,7 @@ use Rattle.std.proofs.Common.{append-nil}
 use Rattle.std.proofs.lemmas.Bool.{cases_Bool, or_left, or_right}
 use Rattle.pj_grammar.specs.Lexemes.{Lexeme}
 use Rattle.pj_grammar.specs.grammar.Ebnf.{Grammar, ◌or◌, optional}
-use Rattle.pj_grammar.specs.parsing.Parser.{Answer, Parser, or_at, optional_at}
+use Rattle.pj_grammar.specs.parsing.Parser.{Answer, Parser, begins, or_at, optional_at}
 use Rattle.pj_grammar.proofs.kinds.Sets.{Kinds, kind_of, ◌∪◌, when, apart}
 use Rattle.pj_grammar.proofs.kinds.SetLemmas.{apart-not}
 use Rattle.pj_grammar.proofs.reads.Reads.{IsExact, left, Plain, Reads}
@@ -89,7 +89,7 @@ module _ {A : Type 0} {F M F' M' : Kinds} {e' : Bool} {n : ℕ} {G W H V : Gramm
   begun-not : (t : Lexeme) (ts : List Lexeme) (a : A) → F (kind_of t) ≡ true → H (t ∷ ts) a → ⊥
   begun-not t ts a in_first phrase = separate t in_first (second.plain.begins t ts a phrase)
 
-  -- behind a front of a list that begins in one set, no phrase of a rule that begins in the other
+  -- behind a prefix of a list that begins in one set, no phrase of a rule that begins in the other
   read-not : (read : List Lexeme) (t : Lexeme) (ts rest w : List Lexeme) (a : A) → F (kind_of t) ≡ true
       → t ∷ ts ≡ read ++ rest
       → length rest ≤ length ts → H (read ++ w) a → ⊥
@@ -179,12 +179,14 @@ module _ {A : Type 0} {F M F' M' : Kinds} {e' : Bool} {n : ℕ} {G W H V : Gramm
 
     -- the answer of the choice is exact
     or_exact : (ts : List Lexeme) → length ts ≤ n → IsExact (G or H) ts (or_at test p q ts)
+    unfolding begins
     or_exact [] short = exact_second [] (λ t more is in_first. cc) (q []) (second.exact [] short)
     or_exact (t ∷ ts) short = exact_if t ts (omega arith) (test t) (sym (same t))
 
     -- where a lexeme begins a phrase of either rule, some are read
     or_moves : (t : Lexeme) (ts : List Lexeme) → length ts < n → (F ∪ F') (kind_of t) ≡ true
         → length (left (or_at test p q (t ∷ ts))) ≤ length ts
+    unfolding begins
     or_moves t ts short in_one = elim (cases_Bool (F (kind_of t))) [
       | inl yes' ↦ let passes : test t ≡ true = same t ∙ yes' in rw passes (first.moves t ts short yes')
       | inr no' ↦

@@ -54,6 +54,7 @@ module _ {A : Type 0} (test : Lexeme → Bool) (view : Lexeme → A) where
   -- the answer is exact
   one_exact : (some : Lexeme) → test some ≡ true → (ts : List Lexeme)
       → IsExact (One test view) ts (one_at test view ts)
+  unfolding one_at
   one_exact some is_some [] = record {
     read = [];
     all = refl;
@@ -70,6 +71,7 @@ module _ {A : Type 0} (test : Lexeme → Bool) (view : Lexeme → A) where
   pub one_reads : (F : Kinds) → ((l : Lexeme) → test l ≡ F (kind_of l)) → (some : Lexeme) → test some ≡ true
       → (n : ℕ)
       → Reads F none false n (One test view) (One test view) (one_at test view)
+  unfolding one_at
   one_reads F same some is_some n = record {
     plain = record {
       begins = λ t ts a w. sym (same t) ∙ one_passes t ts a w;

@@ -9,14 +9,14 @@ use Rattle.pj_grammar.proofs.reads.Reads.{Stops, IsExact, left, Plain, Reads}
 
 -- ---- two splits of a list
 
--- the second front is longer
+-- the second prefix is longer
 pub record IsLonger (front back front' back' : List Lexeme) : Type 0 where
   pub next : Lexeme
   pub more : List Lexeme
   pub front_is : front' ≡ front ++ next ∷ more
   pub back_is : back ≡ next ∷ more ++ back'
 
--- the splits are the same, or one of the fronts is longer
+-- the splits are the same, or one of the prefixes is longer
 abbrev pub SplitsAre : List Lexeme → List Lexeme → List Lexeme → List Lexeme → Type 0
 SplitsAre front back front' back' =
     ((front ≡ front') × (back ≡ back')) ⊎
@@ -54,7 +54,7 @@ splits (t ∷ f) b (t' ∷ f') b' e = splits-cons t t' f b f' b' (cc) (splits f 
 pub stops-end : {A : Type 0} (rule : Grammar A) (read : List Lexeme) → Stops rule read []
 stops-end rule read t more e v b h = absurd cc
 
--- a front of what is left
+-- a prefix of what is left
 pub stops-front : {A : Type 0} (rule : Grammar A) (read r rest : List Lexeme) → Stops rule read (r ++ rest)
     → Stops rule read r
 stops-front rule read [] rest stops = stops-end rule read

@@ -1,5 +1,5 @@
--- A parser reads a rule exactly: what it finds is a phrase of the rule that can't go on, and where it stops the
--- phrases can't go on either.
+-- A parser reads a rule exactly: what it finds is a phrase of the rule that can't go on, and where it stops
+-- the phrases can't go on either.
 use Rattle.std.proofs.Common.{◌≡◌, ℕ, ◌<◌, ◌≤◌, Bool, true}
 use Rattle.std.proofs.Common.{List, [], ◌∷◌, ◌++◌, length, Ok, Err}
 use Rattle.pj_grammar.specs.Lexemes.{Lexeme}
@@ -42,8 +42,8 @@ abbrev pub left : {A : Type 0} → Answer A → List Lexeme
 left (Ok x) = x.1
 left (Err rest) = rest
 
--- the kinds that begin a phrase, those that may follow one in a longer one, whether no lexeme is a phrase, and
--- that a phrase has one value
+-- the kinds that begin a phrase, those that may follow one in a longer one, whether no lexeme is a phrase,
+-- and that a phrase has one value
 pub record Plain {A : Type 0} (first more : Kinds) (empty : Bool) (rule : Grammar A) : Type 0 where
   pub begins : (t : Lexeme) (ts : List Lexeme) (a : A) → rule (t ∷ ts) a → first (kind_of t) ≡ true
   pub goes_on : (u : List Lexeme) (t : Lexeme) (v : List Lexeme) (a b : A) → rule u a → rule (u ++ t ∷ v) b

@@ -13,7 +13,7 @@ use Rattle.pj_grammar.specs.parsing.Parser.{Parser}
 use Rattle.pj_grammar.specs.grammar.Values as rules
 use Rattle.pj_grammar.specs.grammar.Values.{grouped, applied, compared, negated}
 use Rattle.pj_grammar.specs.parsing.Values.{begins_factor, begins_comparison}
-use Rattle.pj_grammar.specs.parsing.Selects.{is_aggregate}
+use Rattle.pj_grammar.specs.Lexemes.{is_aggregate}
 use Rattle.pj_grammar.proofs.kinds.Sets as kinds
 use Rattle.pj_grammar.proofs.kinds.Sets.{Kinds, kind_of, apart, ◌∪◌}
 use Rattle.pj_grammar.proofs.kinds.Tests.{keyword_kind, exactly_kind, sign_kind}

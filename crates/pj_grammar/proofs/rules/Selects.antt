@@ -9,6 +9,7 @@ use Rattle.pj_grammar.specs.declared.types.Tree.{Tree}
 use Rattle.pj_grammar.specs.declared.types.TreeItem.{TreeItem}
 use Rattle.pj_grammar.specs.declared.types.TreeItem.TheVariants as items
 use Rattle.pj_grammar.specs.Lexemes.{Lexeme, no_value, is_word, is_symbol, spells, same, is_keyword}
+use Rattle.pj_grammar.specs.Lexemes.{is_aggregate}
 use Rattle.pj_grammar.specs.grammar.Ebnf.{Grammar, Nothing, ◌>>=◌, optional}
 use Rattle.pj_grammar.specs.parsing.Parser.{Parser}
 use Rattle.pj_grammar.specs.grammar.Words.{keyword, sign, number, behind, listed, in_parens, or_empty}
@@ -131,7 +132,7 @@ module _ (n : ℕ) where
 module _ (n : ℕ) {m : ℕ} {G W : Grammar Tree} (p : Parser Tree)
     (v : Reads value_first value_more false m G W p) where
   count_heads : (ts : List Lexeme) (a : TreeItem) → rules.count_call ts a
-      → (t u : Lexeme) × (w : List Lexeme) × (ts ≡ t ∷ u ∷ w) × (parsers.is_aggregate t ≡ true)
+      → (t u : Lexeme) × (w : List Lexeme) × (ts ≡ t ∷ u ∷ w) × (is_aggregate t ≡ true)
       × (is_symbol Left u ≡ true)
   count_heads ts a w = (
     w.one.lexeme,
@@ -154,7 +155,7 @@ module _ (n : ℕ) {m : ℕ} {G W : Grammar Tree} (p : Parser Tree)
       (one_single (is_word (λ w. same w (codes "uniqExact"))) no_value))))
 
   aggregate_heads : (ts : List Lexeme) (a : TreeItem) → rules.aggregate_call G ts a
-      → (t u : Lexeme) × (w : List Lexeme) × (ts ≡ t ∷ u ∷ w) × (parsers.is_aggregate t ≡ true)
+      → (t u : Lexeme) × (w : List Lexeme) × (ts ≡ t ∷ u ∷ w) × (is_aggregate t ≡ true)
       × (is_symbol Left u ≡ true)
   aggregate_heads ts a w =
       let h = heads_then aggregate_single (aggregate_reads n).plain
@@ -169,7 +170,7 @@ module _ (n : ℕ) {m : ℕ} {G W : Grammar Tree} (p : Parser Tree)
       )
 
   call_heads : (ts : List Lexeme) (a : TreeItem) → rules.call G ts a
-      → (t u : Lexeme) × (w : List Lexeme) × (ts ≡ t ∷ u ∷ w) × (parsers.is_aggregate t ≡ true)
+      → (t u : Lexeme) × (w : List Lexeme) × (ts ≡ t ∷ u ∷ w) × (is_aggregate t ≡ true)
       × (is_symbol Left u ≡ true)
   call_heads ts a (inl w) = count_heads ts a w
   call_heads ts a (inr w) = aggregate_heads ts a w
@@ -242,7 +243,7 @@ module _ (n : ℕ) {m : ℕ} {G W : Grammar Tree} (p : Parser Tree)
         }),
       )
 
-  call_goes : (t u : Lexeme) → parsers.is_aggregate t ≡ true → is_symbol Left u ≡ true
+  call_goes : (t u : Lexeme) → is_aggregate t ≡ true → is_symbol Left u ≡ true
       → (w : List Lexeme) × (a : TreeItem) × rules.call G (t ∷ u ∷ w) a
   call_goes t u is_t is_u =
       elim (cases_Bool (is_keyword (codes "COUNT") t)) [
@@ -268,7 +269,7 @@ module _ {n : ℕ} {G W : Grammar Tree} (p : Parser Tree) (v : Reads value_first
   unfolding parsers.call_or_value_at
   call_or_value_reads =
       reads_as
-      (ahead_reads (call_reads p v) (end v items.Value) parsers.is_aggregate (is_symbol Left)
+      (ahead_reads (call_reads p v) (end v items.Value) is_aggregate (is_symbol Left)
       (kinds.sign Left)
       (sign_kind Left)
       (call_heads n p v) (call_goes n p v) value_item_lone

@@ -131,7 +131,8 @@ module _ (n : ℕ) where
   unfolding parsers.table_behind_at
   table_behind_reads capitals known = seq (keyword_reads n capitals known) (λ _. name_reads n) refl
 
--- what begins an action and a sentence, and what may stand behind a condition and settings, and behind a sentence
+-- what begins an action and a sentence, and what may stand behind a condition and settings, and behind a
+-- sentence
 abbrev pub action_first : Kinds
 action_first =
     kinds.keyword "ADD" ∪ kinds.keyword "DROP" ∪ kinds.keyword "MATERIALIZE" ∪ kinds.keyword "CLEAR"

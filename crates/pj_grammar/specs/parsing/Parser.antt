@@ -1,5 +1,5 @@
--- How a rule is read from left to right: choices look at the next lexeme, or at two. Public contracts of
--- `pj_phrase` alone cite it.
+-- How a rule is read from left to right: choices look at the next lexeme, or at two. Of public contracts
+-- those of `pj_phrase` and `pj_sentence` alone cite it.
 use Rattle.std.specs.Prelude.{ℕ, zero, suc, Bool, false, ◌&&◌, List, [], ◌∷◌, length}
 use Rattle.std.specs.Prelude.{Option, Some, None, Result, Ok, Err, if◌then◌else◌}
 use Rattle.pj_grammar.specs.Lexemes.{Lexeme}
@@ -23,7 +23,7 @@ abbrev pub ◌>>=◌ : {A B : Type 0} → Parser A → (A → Parser B) → Pars
 (first >>= second) ts = after (first ts) second
 
 -- one lexeme
-abbrev pub one_at : {A : Type 0} → (Lexeme → Bool) → (Lexeme → A) → Parser A
+unfoldable pub one_at : {A : Type 0} → (Lexeme → Bool) → (Lexeme → A) → Parser A
 one_at test view [] = Err []
 one_at test view (lexeme ∷ ts) = if test lexeme then Ok (view lexeme, ts) else Err (lexeme ∷ ts)
 
@@ -32,12 +32,12 @@ abbrev pub nothing_at : {A : Type 0} → A → Parser A
 nothing_at value ts = Ok (value, ts)
 
 -- whether the next lexeme passes the test
-abbrev pub begins : (Lexeme → Bool) → List Lexeme → Bool
+unfoldable pub begins : (Lexeme → Bool) → List Lexeme → Bool
 begins test [] = false
 begins test (lexeme ∷ ts) = test lexeme
 
 -- whether the next lexeme passes a test, and the one behind it another
-abbrev pub begins_both : (Lexeme → Bool) → (Lexeme → Bool) → List Lexeme → Bool
+unfoldable pub begins_both : (Lexeme → Bool) → (Lexeme → Bool) → List Lexeme → Bool
 begins_both test other [] = false
 begins_both test other (lexeme ∷ ts) = test lexeme && begins other ts
 

@@ -1,4 +1,5 @@
--- How items, calls and SELECT are read. Public contracts of `pj_phrase` alone cite it.
+-- How items, calls and SELECT are read. Of public contracts those of `pj_phrase` and
+-- `pj_sentence` alone cite it.
 use Rattle.std.specs.Prelude.{ℕ, Bool, true, false, ◌||◌, List, Option, Some, None, codes}
 use Rattle.pj_value.specs.declared.value.AggKind.{AggKind}
 use Rattle.pj_value.specs.declared.value.AggKind.TheVariants as aggregates
@@ -9,7 +10,7 @@ use Rattle.pj_grammar.specs.declared.types.TreeItem.TheVariants as items
 use Rattle.pj_grammar.specs.declared.types.Listed.{Listed}
 use Rattle.pj_grammar.specs.declared.types.TreeOrder.{TreeOrder}
 use Rattle.pj_grammar.specs.declared.types.TreeSelect.{TreeSelect}
-use Rattle.pj_grammar.specs.Lexemes.{Lexeme, is_symbol, is_keyword, is_exactly}
+use Rattle.pj_grammar.specs.Lexemes.{Lexeme, is_symbol, is_keyword, is_aggregate}
 use Rattle.pj_grammar.specs.grammar.Words.{or_empty}
 use Rattle.pj_grammar.specs.grammar.Selects.{or_false}
 use Rattle.pj_grammar.specs.parsing.Parser.{Parser, ◌>>=◌, nothing_at, or_at, ahead_at, optional_at}
@@ -44,14 +45,6 @@ aggregate_call_at value = do
 -- call
 unfoldable pub call_at : Parser Tree → Parser TreeItem
 call_at value = or_at (is_keyword (codes "COUNT")) count_call_at (aggregate_call_at value)
-
--- the word of an aggregate function
-abbrev pub is_aggregate : Lexeme → Bool
-is_aggregate lexeme =
-    is_keyword (codes "COUNT") lexeme
-    || (is_keyword (codes "SUM") lexeme
-    || (is_keyword (codes "MIN") lexeme ||
-    (is_keyword (codes "MAX") lexeme || is_exactly (codes "uniqExact") lexeme)))
 
 -- call | value
 unfoldable pub call_or_value_at : Parser Tree → Parser TreeItem

@@ -1,4 +1,5 @@
--- How settings are read. Public contracts of `pj_phrase` alone cite it.
+-- How settings are read. Of public contracts those of `pj_phrase` and
+-- `pj_sentence` alone cite it.
 use Rattle.std.specs.Prelude.{ℕ, Bool, true, false, ◌&&◌, List, nat_le, ◌==◌, codes}
 use Rattle.pj_lex.specs.declared.token.Symbol.TheVariants.{Eq}
 use Rattle.pj_grammar.specs.declared.types.SetWord.{SetWord}

@@ -1,4 +1,5 @@
--- How statements are read. Public contracts of `pj_phrase` alone cite it.
+-- How statements are read. Of public contracts those of `pj_phrase` and
+-- `pj_sentence` alone cite it.
 use Rattle.std.specs.Prelude.{ℕ, Bool, true, false, List, [], ◌∷◌, length}
 use Rattle.std.specs.Prelude.{Option, None, Result, Ok, Err, codes}
 use Rattle.pj_value.specs.declared.value.Value.{Value}

@@ -1,4 +1,5 @@
--- How definitions of tables and projections are read. Public contracts of `pj_phrase` alone cite it.
+-- How definitions of tables and projections are read. Of public contracts those of `pj_phrase` and
+-- `pj_sentence` alone cite it.
 use Rattle.std.specs.Prelude.{ℕ, List, [], ◌∷◌, Option, codes}
 use Rattle.pj_value.specs.declared.value.Kind.{Kind}
 use Rattle.pj_value.specs.declared.value.Kind.TheVariants as kinds

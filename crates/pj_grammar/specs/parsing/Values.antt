@@ -1,4 +1,5 @@
--- How values and conditions are read. Public contracts of `pj_phrase` alone cite it.
+-- How values and conditions are read. Of public contracts those of `pj_phrase` and
+-- `pj_sentence` alone cite it.
 use Rattle.std.specs.Prelude.{ℕ, zero, suc, List, Err, Bool, ◌||◌, fold, codes}
 use Rattle.pj_lex.specs.declared.token.Symbol.TheVariants.{Left, Right, Comma, Star, Plus, Percent}
 use Rattle.pj_lex.specs.declared.token.Symbol.TheVariants.{Eq, Ne, Lt, Le, Gt, Ge}

@@ -1,4 +1,5 @@
--- How words, signs, numbers, texts and lists are read. Public contracts of `pj_phrase` alone cite it.
+-- How words, signs, numbers, texts and lists are read. Of public contracts those of `pj_phrase` and
+-- `pj_sentence` alone cite it.
 use Rattle.std.specs.Prelude.{ℕ, Bool, List, ◌∷◌, nat_le}
 use Rattle.pj_lex.specs.declared.token.Symbol.{Symbol}
 use Rattle.pj_lex.specs.declared.token.Symbol.TheVariants.{Left, Right, Comma}

@@ -1,4 +1,6 @@
 //! The tokens that are left of a body, and what the next ones are.
+#![tactic(auto, unfolding(pj_grammar::specs::parsing::Parser::begins, pj_grammar::specs::parsing::Parser::begins_both))]
+
 ghost use Rattle.std.specs.Prelude.{◌≡◌, ℕ, length, codes};
 ghost use Rattle.std.specs.List.{AllByRecursion};
 ghost use Rattle.pj_lex.specs.declared.token.Symbol.TheVariants.{Left};
@@ -8,7 +10,7 @@ ghost use Rattle.pj_grammar.specs.Lexemes.{is_any_text, is_text_exactly, is_func
 ghost use Rattle.pj_grammar.specs.parsing.Parser.{begins, begins_both};
 ghost use Rattle.pj_phrase.specs.Given.{IsNext};
 ghost use Rattle.pj_grammar.specs.parsing.Settings.{is_zero};
-ghost use Rattle.pj_grammar.specs.parsing.Selects.{is_aggregate};
+ghost use Rattle.pj_grammar.specs.Lexemes.{is_aggregate};
 
 use pj_grammar::words::{is_exactly, names_aggregate, names_function, spells};
 use pj_lex::{Symbol, Token, TokenKind};

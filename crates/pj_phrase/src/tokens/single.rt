@@ -1,7 +1,9 @@
 //! What reads one token. Each reader gives what it took of the token, in memory of its own, and the rest.
-ghost use Rattle.std.specs.Prelude.{◌≡◌, ◌&&◌, ◌==◌, nat_le};
-ghost use Rattle.pj_grammar.specs.Lexemes.{no_value, is_number, is_not_if};
-ghost use Rattle.pj_grammar.specs.parsing.Parser.{one_at};
+#![tactic(auto, unfolding(pj_grammar::specs::parsing::Parser::one_at))]
+
+ghost use Rattle.std.specs.Prelude.{◌≡◌, ◌&&◌, ◌==◌, nat_le, Option, Ok};
+ghost use Rattle.pj_grammar.specs.Lexemes.{no_value, is_number, is_symbol, is_not_if};
+ghost use Rattle.pj_grammar.specs.parsing.Parser.{one_at, optional_at};
 ghost use Rattle.pj_phrase.specs.Given.{Gives, nothing_and};
 ghost use Rattle.pj_grammar.specs.parsing.Words.{keyword_at, exactly_at, sign_at, name_at, list_name_at};
 ghost use Rattle.pj_grammar.specs.parsing.Words.{name_but_if_at, list_name_but_if_at, function_name_at};
@@ -41,6 +43,18 @@ pub fn sign<'a>(symbol: Symbol, rest: Rest<'a>) -> Result<Rest<'a>, Fault<'a>>
     match rest.next() {
         Some((Next::Symbol(next), behind)) if symbol == next => Ok(behind),
         _ => Err(Fault::Stuck(rest)),
+    }
+}
+
+/// What is behind the symbol where that comes next, and else all that is left.
+#[tactic(auto, unfolding(pj_grammar::specs::parsing::Parser::one_at, pj_grammar::specs::parsing::Parser::begins))]
+pub fn pass_over<'a>(symbol: Symbol, rest: Rest<'a>) -> Rest<'a>
+    ensures { (found : Option (Unit {0}))
+        × (optional_at (is_symbol symbol) (sign_at symbol) rest.entry ≡ Ok (found, result)) }
+{
+    match rest.next() {
+        Some((Next::Symbol(next), behind)) if symbol == next => behind,
+        _ => rest,
     }
 }
 

@@ -27,6 +27,7 @@ fn pair(alloc: Global, op: TreeOp, left: Tree, right: Tree) -> Result<Tree, NoMe
 }
 
 /// Whether a factor follows.
+#[tactic(auto, unfolding(pj_grammar::specs::parsing::Parser::begins))]
 fn begins_factor(rest: &Rest<'_>) -> bool
     ensures { result ≡ begins begins_factor rest.now }
 {
@@ -34,6 +35,7 @@ fn begins_factor(rest: &Rest<'_>) -> bool
 }
 
 /// Whether a comparison follows.
+#[tactic(auto, unfolding(pj_grammar::specs::parsing::Parser::begins))]
 fn begins_comparison(rest: &Rest<'_>) -> bool
     ensures { result ≡ begins begins_comparison rest.now }
 {

@@ -1,9 +1,9 @@
 use Rattle.std.proofs.Common.{◌≡◌, ℕ, ◌-◌, length, drop, sym, ap, subst, ◌∙◌, arith}
 use Rattle.pj_grammar.specs.Lexemes.{lexemes}
 use Rattle.pj_grammar.specs.SyntaxErrors.{offset_of, IsSyntaxError}
-use Rattle.pj_parse.proofs.TokenPlaces.{lie_in}
+use Rattle.pj_parse.proofs.TokenOffsets.{lie_in}
 use Rattle.pj_grammar.proofs.WholeSentence.{whole_found}
-use Rattle.pj_parse.proofs.SyntaxPlaces.{left_within, place_from_end}
+use Rattle.pj_parse.proofs.SyntaxOffsets.{left_within, place_from_end}
 use Rattle.pj_parse.proofs.whole.statement.Goals as goal
 
 pub new-rest-requires : goal.new-rest-requires

@@ -1,7 +1,9 @@
 use Rattle.std.proofs.Common.{◌+◌, ◌-◌, arith, rules}
 use Rattle.std.proofs.lemmas.Result.{err_from_is_err_and}
+use Rattle.pj_lex.specs.declared.token.Symbol.TheVariants.{Comma}
+use Rattle.pj_grammar.specs.Lexemes.{is_symbol, no_value}
 use Rattle.pj_grammar.specs.parsing.Settings.{set_at}
-use Rattle.pj_phrase.proofs.ManyLoop.{list-step, list-fails, list-ends, list-stops}
+use Rattle.pj_phrase.proofs.ManyLoop.{begun-fails, list-step, list-fails, list-ends, list-stops}
 use Rattle.pj_phrase.proofs.settings.set_list.Goals as goal
 use Rattle.pj_phrase.proofs.settings.set_list.Goals.{else-sets-test, then-sets-test+then-not-begins_symbol}
 
@@ -12,6 +14,13 @@ sets-preserved c =
     rw c.in_ok-push-2.ensures.items
     (list-step set_at now next _ _ _ _ _ _ c.sets.invariant (omega arith) (search rules)
     c.in_ok-behind.ensures c.in_ok-one.ensures)
+
+pub returns-in_err-behind : goal.returns-in_err-behind
+returns-in_err-behind c =
+    let p = err_from_is_err_and c.from_residual-in_err-behind.result c.from_residual-in_err-behind.ensures.1
+    in
+    rw (p.1, p.2)
+    (begun-fails (is_symbol Comma) no_value _ _ _ (search rules) c.in_err-behind.ensures)
 
 pub returns-in_err-one : goal.returns-in_err-one
 returns-in_err-one c =
