@@ -1,5 +1,5 @@
-//! Tests of what no clause says of tokens, scripts, statements and bindings: that calls succeed where memory is
-//! ample, and worked examples.
+//! Tests of what no clause says of tokens, scripts, statements and bindings: that calls succeed where memory
+//! is ample, and worked examples.
 #![tactic(auto)]
 
 #[cfg(test)]

@@ -7,7 +7,7 @@ use Rattle.pj_bind.specs.declared.types.Refusal.TheVariants.{UnknownTable}
 use Rattle.pj_bind.specs.Names.{Name}
 use Rattle.pj_bind.specs.Causes.{Cause, GivesNone, First}
 use Rattle.pj_bind.specs.Binding.{IsUnknown, IsTableAt, asked_of, At, causes_at}
-use Rattle.pj_bind.proofs.Decided.{HasOrNone, decided-not}
+use Rattle.pj_bind.proofs.decided.Decided.{HasOrNone, decided-not}
 use Rattle.pj_bind.proofs.RepeatLemmas.{decided-Contains}
 use Rattle.pj_bind.proofs.TableLemmas.{IsUnknown-at, table-same, unknown-or-at}
 use Rattle.pj_bind.proofs.CauseLemmas.{Each, GivesOne, when-one, when-none, when-decided}

@@ -28,13 +28,13 @@ use Rattle.pj_bind.specs.Binding.{table_limit, column_limit, IsUnknown, IsTableA
 use Rattle.pj_bind.specs.Binding.{create_causes, AreColumns, insert_causes, KindsAre, BreaksGroups}
 use Rattle.pj_bind.specs.Binding.{select_causes, Asks, asked_of, form_causes, causes, IsBound}
 use Rattle.pj_bind.specs.Laws.{OneRefusal, OneBound, NoBoundIsRefused, BoundOrRefused, BoundQueriesFit}
-use Rattle.pj_bind.proofs.Decided.{holds}
+use Rattle.pj_bind.proofs.decided.Decided.{holds}
 use Rattle.pj_bind.proofs.RepeatLemmas.{NoneRepeats-from_none}
 use Rattle.pj_bind.proofs.RepeatLemmas.{known-from_none}
 use Rattle.pj_bind.proofs.TableLemmas.{unknown-or-at, number-same, table-same}
 use Rattle.pj_bind.proofs.FaultLemmas.{repeat-none, unknown-none}
-use Rattle.pj_bind.proofs.FillingDecided.{decided-FillColumns}
-use Rattle.pj_bind.proofs.QueriesDecided.{decided-KeepsGroups}
+use Rattle.pj_bind.proofs.decided.FillingDecided.{decided-FillColumns}
+use Rattle.pj_bind.proofs.decided.QueriesDecided.{decided-KeepsGroups}
 use Rattle.pj_bind.proofs.CauseLemmas.{Each, when-none, First-one, First-none, First-or-none}
 use Rattle.pj_bind.proofs.AtLemmas.{causes_at-none, asked_of-none}
 use Rattle.pj_bind.proofs.FormLemmas.{causes-one, causes-decided, decided-IsBuilt, KindsAre-decided}

@@ -4,7 +4,7 @@ use Rattle.std.specs.Prelude.{◌⊎◌}
 use Rattle.pj_bind.specs.declared.types.Refusal.{Refusal}
 use Rattle.pj_bind.specs.Names.{Name}
 use Rattle.pj_bind.specs.Causes.{Cause, ◌when◌, ◌naming◌, GivesNone, First}
-use Rattle.pj_bind.proofs.Decided.{Decided, HasOrNone}
+use Rattle.pj_bind.proofs.decided.Decided.{Decided, HasOrNone}
 
 -- each of the causes has this
 abbrev pub Each : (Cause → Type 0) → List Cause → Type 0

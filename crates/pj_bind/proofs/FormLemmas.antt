@@ -25,12 +25,13 @@ use Rattle.pj_bind.specs.Causes.{◌naming◌}
 use Rattle.pj_bind.specs.Binding.{table_limit, column_limit, new_names}
 use Rattle.pj_bind.specs.Binding.{insert_causes, KindsAre, BreaksGroups, select_causes, form_causes}
 use Rattle.pj_bind.specs.Binding.{causes}
-use Rattle.pj_bind.proofs.Decided.{Decided, HasOrNone, decided-both, decided-by, decided-not, decided-le}
-use Rattle.pj_bind.proofs.Decided.{decided-lt, decided-all}
+use Rattle.pj_bind.proofs.decided.Decided.{Decided, HasOrNone, decided-both, decided-by, decided-not}
+use Rattle.pj_bind.proofs.decided.Decided.{decided-le}
+use Rattle.pj_bind.proofs.decided.Decided.{decided-lt, decided-all}
 use Rattle.pj_bind.proofs.RepeatLemmas.{decided-Contains, IsFirstRepeat-one, IsFirstRepeat-decided}
 use Rattle.pj_bind.proofs.RepeatLemmas.{IsFirstUnknown-one, IsFirstUnknown-decided}
-use Rattle.pj_bind.proofs.FillingDecided.{decided-FillColumns}
-use Rattle.pj_bind.proofs.QueriesDecided.{decided-KeepsKinds, decided-KeepsGroups}
+use Rattle.pj_bind.proofs.decided.FillingDecided.{decided-FillColumns}
+use Rattle.pj_bind.proofs.decided.QueriesDecided.{decided-KeepsKinds, decided-KeepsGroups}
 use Rattle.pj_bind.proofs.CauseLemmas.{Each, GivesOne, when-one, when-decided, naming-one, naming-decided}
 use Rattle.pj_bind.proofs.AtLemmas.{causes_at-one, causes_at-decided}
 

@@ -9,7 +9,8 @@ use Rattle.std.proofs.lemmas.List.{take-take, length-take, get_or-take, take_all
 use Rattle.std.proofs.lemmas.Option.{none-some, same_Some, slice_get_within, slice_get-get_or}
 use Rattle.std.proofs.lemmas.Option.{get_or_from_slice_get}
 use Rattle.pj_bind.specs.Names.{Name, first_unknown, IsFirstUnknown, NoneRepeats, IsFirstRepeat}
-use Rattle.pj_bind.proofs.Decided.{Decided, HasOrNone, decided-true, decided-by, some-or-none, none-from}
+use Rattle.pj_bind.proofs.decided.Decided.{Decided, HasOrNone, decided-true, decided-by, some-or-none}
+use Rattle.pj_bind.proofs.decided.Decided.{none-from}
 use Rattle.pj_bind.proofs.NameLemmas.{has-Contains, Contains-has, NoneRepeats-more}
 
 -- whether a name is one of these

@@ -15,7 +15,7 @@ use Rattle.pj_expr.specs.Tables.{names}
 use Rattle.pj_bind.specs.Binding.{IsTableAt, IsUnknown}
 use Rattle.pj_bind.specs.Faults.{IsAt}
 use Rattle.pj_bind.specs.Laws.{EachIsFirst}
-use Rattle.pj_bind.proofs.Decided.{Decided, decided-bytes}
+use Rattle.pj_bind.proofs.decided.Decided.{Decided, decided-bytes}
 
 -- `==` on the bytes of two names
 pub Decides-names : (r : Bool) (a b : List ℕ) → r ≡ pointwise eqb a b → Decides r (a ≡ b)
@@ -80,7 +80,18 @@ unknown-or-at (table ∷ tables) name = by (decided-bytes table.name name) (unkn
         inr (0, (table, (refl, named, λ (among : Contains [] name). omega (arith, among.1))))
     by (inr other) (inl unknown) = inl (IsUnknown-front table tables name other unknown)
     by (inr other) (inr (number, (found, (there, named, before)))) =
-        inr (suc number, (found, (there, named, IsUnknown-front table (take number tables) name other before)))
+        inr (
+          suc number,
+          (
+            found,
+            (
+              there,
+              named,
+              IsUnknown-front table
+                  (take number tables) name other before,
+            ),
+          ),
+        )
 
 -- a name with a table isn't unknown
 pub IsUnknown-at : (tables : List Table) (name : List ℕ) (number : ℕ) (table : Table)
@@ -99,7 +110,8 @@ number-same tables name i j a b first other =
 pub table-same : (tables : List Table) (name : List ℕ) (i j : ℕ) (a b : Table) → IsTableAt tables name i a
     → IsTableAt tables name j b → a ≡ b
 table-same tables name i j a b first other =
-    same_Some a b (sym first.0 ∙ ap (slice_get tables) (number-same tables name i j a b first other) ∙ other.0)
+    same_Some a b (sym first.0 ∙ ap (slice_get tables) (number-same tables name i j a b first other)
+    ∙ other.0)
 
 -- where no two tables have one name, each is the first of its name
 pub each_is_first : EachIsFirst
@@ -111,7 +123,8 @@ each_is_first tables number table unique there = (there, refl, none)
         (rw (length-map (take number tables) (λ (t : Table). t.name)) at within) in
         let lt : k < number = omega (arith, short, length-take number tables) in
         let inside : k < length tables = omega (arith, short, length-take number tables) in
-        let read : slice_get tables k ≡ Some (get_or tables k table) = slice_get-get_or tables k table inside in
+        let read : slice_get tables k ≡ Some (get_or tables k table) = slice_get-get_or tables k table inside
+        in
         let named : (get_or tables k table).name ≡ table.name =
         ap (λ (t : Table). t.name) (sym (get_or-take number tables k table lt))
         ∙ sym (get_or-map (λ (t : Table). t.name) (take number tables) k table table.name short) ∙ is in

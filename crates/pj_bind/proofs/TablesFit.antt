@@ -87,7 +87,8 @@ listed-all : {A : Type 0} (rule : Grammar A) (P : A → Type 0)
 listed-all rule P each ts values found =
     subst (AllByRecursion P) (sym found.other.other.is) (
       each found.front found.found found.one,
-      many-all (behind (sign Comma) rule) P (λ more value one. each one.back value one.other) found.other.front
+      many-all (behind (sign Comma) rule) P (λ more value one. each one.back value one.other)
+          found.other.front
           found.other.found found.other.one,
     )
 

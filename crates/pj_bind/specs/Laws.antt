@@ -67,5 +67,6 @@ BoundQueriesFit =
 -- the table of a CREATE that is a statement of the grammar and binds may be made
 abbrev pub BoundTablesFit : Type 0
 BoundTablesFit =
-    (ts : List Lexeme) (statement : Statement) (tables : List Table) (table : Table) → IsStatement ts statement
+    (ts : List Lexeme) (statement : Statement) (tables : List Table) (table : Table)
+    → IsStatement ts statement
     → IsBound tables statement (bounds.Create table) → TableFits table

@@ -208,7 +208,8 @@ fn insert_into(
       kinds = kinds_of table.now;
       rows = filled_rows table.now.columns listed.now rows.now;
     }) }
-    ensures refused { IfErr result (IsFault (First (asked_of table.now (insert_causes listed.now rows.now)))) }
+    ensures refused { IfErr result
+        (IsFault (First (asked_of table.now (insert_causes listed.now rows.now)))) }
 {
     let names = names_listed(listed);
     if let Some(repeated) = first_repeat(alloc, names)? {

@@ -67,7 +67,8 @@ pub(crate) fn numbers_block<'a>(
     requires kind { expr_kind (block_kinds block) expr.now ≡ Some kinds.Num }
     requires within { IsWithin block }
     ensures { IfOk result
-        (λ ns. numbers_of (length (block_rows block.entry)) ns ≡ numbers_for expr.now (block_rows block.entry)) }
+        (λ ns. numbers_of (length (block_rows block.entry)) ns
+        ≡ numbers_for expr.now (block_rows block.entry)) }
 {
     match expr {
         Expr::Column(at) => block.numbers(alloc, *at),

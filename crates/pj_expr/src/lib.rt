@@ -1,4 +1,5 @@
-//! Expressions over the columns of a row, conditions, queries and tables: what they are, what they fit and what they mean.
+//! Expressions over the columns of a row, conditions, queries and tables: what they are, what they fit and
+//! what they mean.
 #![tactic(auto)]
 
 mod cond;

@@ -24,7 +24,8 @@ use Rattle.pj_grammar.specs.grammar.Values.{value_to}
 use Rattle.pj_grammar.specs.grammar.Statements.{row, target, insert, sentence}
 use Rattle.pj_grammar.specs.SyntaxErrors.{BeginsInsert}
 use Rattle.pj_insert.specs.Inserts.{text_size, IsInsert, ArePrefix, SpellsPrefix, IsIntoPrefix}
-use Rattle.pj_insert.proofs.PrefixLemmas.{prefix_within, prefix_then, prefix_nothing, prefix_left, prefix_right}
+use Rattle.pj_insert.proofs.PrefixLemmas.{prefix_within, prefix_then, prefix_nothing, prefix_left}
+use Rattle.pj_insert.proofs.PrefixLemmas.{prefix_right}
 use Rattle.pj_insert.proofs.PrefixLemmas.{ArePrefix-append, semicolon_prefix}
 
 -- ---- the rule of INSERT
@@ -130,7 +131,8 @@ make most body prefix bytes here (t ∷ ts) rest whole position (kind, own, more
 
 -- a body that spells a statement up to its end is the INSERT of that statement
 is_insert : (most : ℕ) (body rest : List ℕ) (s : Statement)
-    → (spelled : SpellsPrefix most (sentence (value_to 0)) body s rest) → IsBlank rest → BeginsInsert spelled.ts
+    → (spelled : SpellsPrefix most (sentence (value_to 0)) body s rest) → IsBlank rest
+    → BeginsInsert spelled.ts
     → IsInsert most body s
 is_insert most body rest s spelled blank begins =
     let made = make most body [] body 0 spelled.ts rest refl refl spelled.all in

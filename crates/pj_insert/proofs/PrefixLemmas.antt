@@ -96,7 +96,8 @@ prefix_nothing most value bytes =
 -- one rule behind the other
 pub prefix_then : {A B : Type 0} {most : ℕ} {first : Grammar A} {second : A → Grammar B}
     {a b c : List ℕ} {x : A} {y : B}
-    → SpellsPrefix most first a x b → SpellsPrefix most (second x) b y c → SpellsPrefix most (first >>= second) a y c
+    → SpellsPrefix most first a x b → SpellsPrefix most (second x) b y c → SpellsPrefix most
+    (first >>= second) a y c
 prefix_then {most = most} {a = a} {b = b} {c = c} {x = x} s r =
     record {
       ts = s.ts ++ r.ts;
@@ -199,7 +200,8 @@ listed-push rule ts us values value w word =
 pub listed_more : {A : Type 0} {most : ℕ} {rule : Grammar A} {bytes mid inside rest : List ℕ}
     {values : List A} {value : A}
     → SpellsPrefix most (listed rule) bytes values mid → HasFirst (kinds.Symbol Comma) mid inside
-    → SpellsPrefix most rule inside value rest → SpellsPrefix most (listed rule) bytes (values ++ value ∷ []) rest
+    → SpellsPrefix most rule inside value rest → SpellsPrefix most (listed rule) bytes (values
+    ++ value ∷ []) rest
 listed_more {most = most} {rule = rule} {bytes = bytes} {mid = mid} {inside = inside} {rest = rest}
     {values = values} {value = value} s comma one =
     let c = comma_prefix most mid inside comma in

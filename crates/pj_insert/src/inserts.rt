@@ -129,7 +129,8 @@ fn literals<'a>(
 ) -> Result<Option<&'a [u8]>, NoMemory>
     requires { rows.old.begun ≡ [] }
     ensures read { IfOk result
-        (λ found. IfSome found (λ rest. SpellsPrefix most (listed literal) bytes.now rows.new.begun rest.now)) }
+        (λ found. IfSome found
+        (λ rest. SpellsPrefix most (listed literal) bytes.now rows.new.begun rest.now)) }
     ensures whole { OnOk result (rows.new.whole ≡ rows.old.whole) }
 {
     let Some((first, behind)) = literal(alloc, most, bytes)? else {
@@ -175,7 +176,8 @@ fn row_list<'a>(
     most: usize,
     bytes: &'a [u8],
 ) -> Result<Option<(ValueRows, &'a [u8])>, NoMemory>
-    ensures { IfOk result (λ found. IfSome found (λ x. SpellsPrefix most (listed row) bytes.now x.0 x.1.now)) }
+    ensures { IfOk result
+        (λ found. IfSome found (λ x. SpellsPrefix most (listed row) bytes.now x.0 x.1.now)) }
 {
     let mut rows = RowsSoFar::new(alloc);
     let Some(behind) = row(alloc, most, &mut rows, bytes)? else {

@@ -67,8 +67,8 @@ next_on t n (Inserted table block rows) = if table == t then n + 1 else n
 abbrev pub next : List Entry → ℕ → ℕ
 next h t = fold (λ n entry. next_on t n entry.what) 1 h
 
--- the move fits the history before it: names are new and tables may be made, tables are there, numbers are the
--- next ones, rows have the kinds of their table
+-- the move fits the history before it: names are new and tables may be made, tables are there, numbers are
+-- the next ones, rows have the kinds of their table
 abbrev pub WhatFits : List Entry → What → Type 0
 WhatFits place (Created table) = (Contains (names (catalog place)) table.name → ⊥) × TableFits table
 WhatFits place Refused = Unit {0}

@@ -30,14 +30,16 @@ module _ (laws : HasOneMeaning) (body : List ℕ) where
   pub BodyReads-one : (a b : Statement) → BodyReads body a → BodyReads body b → a ≡ b
   BodyReads-one a b r s =
       laws.one_statement (lexemes body s.tokens) a b
-      (moved (λ (ts : List Token). IsStatement (lexemes body ts) a) r.tokens s.tokens r.are s.are r.spelled) s.spelled
+      (moved (λ (ts : List Token). IsStatement (lexemes body ts) a) r.tokens s.tokens r.are s.are r.spelled)
+      s.spelled
 
   -- a body off the grammar spells no statement
   no_statement_read : (at : ℕ) (tokens : List Token) (statement : Statement) → IsOffGrammar body at
       → AreTokens body tokens → IsStatement (lexemes body tokens) statement → ⊥
   no_statement_read at tokens statement off are spelled =
       off.error.1.no_statement statement
-      (moved (λ (ts : List Token). IsStatement (lexemes body ts) statement) tokens off.tokens are off.are spelled)
+      (moved (λ (ts : List Token). IsStatement (lexemes body ts) statement) tokens off.tokens are off.are
+      spelled)
 
   -- a body with too many tokens has not so few
   not_few : (tokens : List Token) → HasManyTokens body → AreTokens body tokens
@@ -59,7 +61,8 @@ module _ (laws : HasOneMeaning) (body : List ℕ) where
       → IsUnreadable body refusal → ⊥
   BodyReads-readable statement (Syntax at) r (inl breaks) =
       laws.no_tokens_with_a_break body r.tokens at r.are breaks
-  BodyReads-readable statement (Syntax at) r (inr off) = no_statement_read at r.tokens statement off r.are r.spelled
+  BodyReads-readable statement (Syntax at) r (inr off) = no_statement_read at r.tokens statement off r.are
+      r.spelled
   BodyReads-readable statement (Limit Tokens) r many = not_few r.tokens many r.are r.few
   BodyReads-readable statement (Limit Text) r long =
       r.short (moved HasLongText long.tokens r.tokens long.are r.are long.long)

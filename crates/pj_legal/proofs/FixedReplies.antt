@@ -33,10 +33,10 @@ use Rattle.pj_legal.specs.Laws.{IsPlain}
 use Rattle.pj_legal.specs.FixedReplies.{IsClean, HaveOneShape, FitsReply, TextFixesReplies}
 use Rattle.pj_legal.proofs.BodyLaws.{BodyBinds-one, one_meaning}
 use Rattle.pj_legal.proofs.LegalNames.{slice_get_push}
-use Rattle.pj_legal.proofs.ListLemmas.{All-append}
-use Rattle.pj_legal.proofs.PlainReplies.{All-sessions, IsLegal-plain}
-use Rattle.pj_legal.proofs.TextLaws.{reply_text-same}
-use Rattle.pj_legal.proofs.ReadReplies.{reply_text-read}
+use Rattle.pj_legal.proofs.histories.ListLemmas.{All-append}
+use Rattle.pj_legal.proofs.plain.PlainReplies.{All-sessions, IsLegal-plain}
+use Rattle.pj_legal.proofs.texts.TextLaws.{reply_text-same}
+use Rattle.pj_legal.proofs.texts.ReadReplies.{reply_text-read}
 
 -- ---- a script's names and lines
 
@@ -141,7 +141,8 @@ In x (y ∷ ys) = (x ≡ y) ⊎ In x ys
 abbrev AreInOrder : ℕ → ℕ → List Request → Type 0
 AreInOrder low high [] = Unit {0}
 AreInOrder low high (request ∷ requests) =
-    (low < request.line) × (request.line < high) × (request.shown ≡ Some request.line) × AreInOrder request.line high requests
+    (low < request.line) × (request.line < high) × (request.shown
+    ≡ Some request.line) × AreInOrder request.line high requests
 
 AreInOrder-weaken : (low next high : ℕ) (requests : List Request) → low ≤ next → AreInOrder next high requests
     → AreInOrder low high requests
@@ -165,11 +166,13 @@ AreInOrder-requests_by : (low high session : ℕ) (requests : List Request) → 
     → AreInOrder low high (requests_by session requests)
 AreInOrder-requests_by low high session [] all = tt
 AreInOrder-requests_by low high session (request ∷ requests) all =
-    AreInOrder-step low high (request.session == session) request (requests_by session requests) all.0 all.1 all.2
+    AreInOrder-step low high (request.session == session) request
+    (requests_by session requests) all.0 all.1 all.2
     (AreInOrder-requests_by request.line high session requests all.3)
 
 -- a statement of the list: its line, and that it is whole
-In-facts : (low high : ℕ) (x : Request) (requests : List Request) → AreInOrder low high requests → In x requests
+In-facts : (low high : ℕ) (x : Request) (requests : List Request) → AreInOrder low high requests
+    → In x requests
     → (low < x.line) × (x.line < high) × (x.shown ≡ Some x.line)
 In-facts low high x [] all is = absurd is
 In-facts low high x (s ∷ ss) all (inl same) =
@@ -180,7 +183,8 @@ In-facts low high x (s ∷ ss) all (inr later) =
     (omega (arith, all.0, facts.0), facts.1, facts.2)
 
 -- two of one line are one
-In-one : (low high : ℕ) (x y : Request) (requests : List Request) → AreInOrder low high requests → In x requests
+In-one : (low high : ℕ) (x y : Request) (requests : List Request) → AreInOrder low high requests
+    → In x requests
     → In y requests → x.line ≡ y.line → x ≡ y
 In-one low high x y [] all first other same = absurd first
 In-one low high x y (s ∷ ss) all (inl a) (inl b) same = a ∙ sym b
@@ -201,7 +205,8 @@ pub record IsAsked (mine : List Move) (requests : List Request) (shown : Shown) 
   pub at : request.shown ≡ Some shown.line
   pub form : Form request (record { moves = for_line request.line mine; reply = Some shown.reply })
 
-IsAsked-later : (mine : List Move) (s : Request) (requests : List Request) (shown : Shown) → IsAsked mine requests shown
+IsAsked-later : (mine : List Move) (s : Request) (requests : List Request) (shown : Shown)
+    → IsAsked mine requests shown
     → IsAsked mine (s ∷ requests) shown
 IsAsked-later mine s requests shown asked =
     record { request = asked.request; is = inr asked.is; at = asked.at; form = asked.form }
@@ -212,13 +217,15 @@ AllAsked-later mine s requests [] all = tt
 AllAsked-later mine s requests (r ∷ rs) all =
     (IsAsked-later mine s requests r all.0, AllAsked-later mine s requests rs all.1)
 
-Takes-asked : (o : Option ℕ) (mine : List Move) (request : Request) (requests : List Request) (rs : List Shown)
+Takes-asked : (o : Option ℕ) (mine : List Move) (request : Request) (requests : List Request)
+    (rs : List Shown)
     → request.shown ≡ o
     → ((more : List Shown) → Went Form mine requests more → AllByRecursion (IsAsked mine requests) more)
     → Takes o (λ reply. Form request (record { moves = for_line request.line mine; reply = reply }))
     (Went Form mine requests) rs
     → AllByRecursion (IsAsked mine (request ∷ requests)) rs
-Takes-asked None mine request requests rs is rest takes = AllAsked-later mine request requests rs (rest rs takes.1)
+Takes-asked None mine request requests rs is rest takes = AllAsked-later mine request requests rs
+    (rest rs takes.1)
 Takes-asked (Some line) mine request requests [] is rest takes = absurd takes
 Takes-asked (Some line) mine request requests (r ∷ rs) is rest takes = (
   record { request = request; is = inl refl; at = is ∙ ap Some (sym takes.0); form = takes.1 },
@@ -312,7 +319,8 @@ kinds_are request ms out other a b =
 
 -- two replies to one statement have one shape
 shapes_are : (request : Request) (ms : List Move) (r s : Reply)
-    → Form request (record { moves = ms; reply = Some r }) → Form request (record { moves = ms; reply = Some s })
+    → Form request (record { moves = ms; reply = Some r }) → Form request
+    (record { moves = ms; reply = Some s })
     → HaveOneShape r s
 shapes_are request ms (replies.Rows out) (replies.Rows other) a b =
     kinds_are request ms out other
@@ -412,7 +420,8 @@ module _ (script : Script) (h : List Entry) (names : AreNames script.names) (hig
       let line : moved.request.line ≡ r.line = same_Some _ _ (sym facts.2 ∙ moved.at) in
       let other : b.asked.request.line ≡ s.line = same_Some _ _ (sym too.2 ∙ b.asked.at) in
       let same : moved.request ≡ b.asked.request =
-      In-one 0 high moved.request b.asked.request requests in_order moved.is b.asked.is (line ∙ lines ∙ sym other) in
+      In-one 0 high moved.request b.asked.request requests in_order moved.is b.asked.is (line ∙ lines
+      ∙ sym other) in
       shapes_are b.asked.request (for_line b.asked.request.line mine) r.reply s.reply
       (subst (λ (x : Request). Form x (record { moves = for_line x.line mine; reply = Some r.reply })) same
       moved.form) b.asked.form
@@ -432,11 +441,14 @@ module _ (script : Script) (h : List Entry) (names : AreNames script.names) (hig
       let other = IsName-at script.names s.session names.0 too.0.heard in
       let few = small_line r known.0 in
       let many = small_line s too.0 in
-      let asked = reply_text-same r.line s.line (name_at script.names r.session) (name_at script.names s.session)
-      r.reply s.reply (replies_text script.names rs) (replies_text script.names ss) few many first other same in
+      let asked = reply_text-same r.line s.line (name_at script.names r.session)
+      (name_at script.names s.session)
+      r.reply s.reply (replies_text script.names rs) (replies_text script.names ss) few many first other same
+      in
       let sessions : r.session ≡ s.session =
       one_session r.session s.session known.0.heard too.0.heard asked.1 in
-      let all = reply_text-read r.line s.line (name_at script.names r.session) (name_at script.names s.session)
+      let all = reply_text-read r.line s.line (name_at script.names r.session)
+      (name_at script.names s.session)
       r.reply s.reply (replies_text script.names rs) (replies_text script.names ss) few many first other
       known.0.clean too.0.clean (one_shape r s known.0 too.0 asked.0 sessions) same in
       let rest : rs ≡ ss = fixed rs ss known.1 too.1 all.3 in

@@ -32,16 +32,19 @@ MovesAreOf-stops : (sort : Bound → What → Type 0) (request : Request) (cours
 MovesAreOf-stops sort request course (inl none) = subst (MovesAreOf request) (sym none) tt
 MovesAreOf-stops sort request course (inr one) = subst (MovesAreOf request) (sym one.5) (refl, tt)
 
-MovesAreOf-open : (request : Request) (course : Course) → IsLeftOpen request course → MovesAreOf request course.moves
+MovesAreOf-open : (request : Request) (course : Course) → IsLeftOpen request course
+    → MovesAreOf request course.moves
 MovesAreOf-open request course left = elim left.stopped [
   | inl refused ↦ subst (MovesAreOf request) (sym refused.3) (refl, tt)
   | inr stops ↦ MovesAreOf-stops _ request course stops
 ]
 
 -- the moves of a statement are its own
-pub MovesAreOf-form : (request : Request) (course : Course) → Form request course → MovesAreOf request course.moves
+pub MovesAreOf-form : (request : Request) (course : Course) → Form request course
+    → MovesAreOf request course.moves
 MovesAreOf-form request course (inl refused) = subst (MovesAreOf request) (sym refused.moves) (refl, tt)
-MovesAreOf-form request course (inr (inl done)) = MovesAreOf-bound done.place request done.bound course done.form
+MovesAreOf-form request course (inr (inl done)) = MovesAreOf-bound done.place request done.bound course
+    done.form
 MovesAreOf-form request course (inr (inr (inl starved))) = MovesAreOf-stops _ request course starved.stopped
 MovesAreOf-form request course (inr (inr (inr (inl out)))) = MovesAreOf-stops _ request course out.stopped
 MovesAreOf-form request course (inr (inr (inr (inr left)))) = MovesAreOf-open request course left

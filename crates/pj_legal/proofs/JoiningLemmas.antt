@@ -12,7 +12,7 @@ use Rattle.pj_legal.specs.Forms.{Form}
 use Rattle.pj_legal.specs.Shares.{SessionShare, WorkerShare, Went, NeverFall, Rise, IsTask, lines_of}
 use Rattle.pj_legal.specs.Legal.{IsActor, IsLegal}
 use Rattle.pj_legal.specs.Joining.{AreNotBy, HoldsInPrefix}
-use Rattle.pj_legal.proofs.MoveLemmas.{moves_by-more}
+use Rattle.pj_legal.proofs.histories.MoveLemmas.{moves_by-more}
 
 -- a session's share, where it makes no more moves
 pub SessionShare-more : (session : ℕ) (requests : List Request) (h more : List Entry) (replies : List Shown)
@@ -23,7 +23,8 @@ SessionShare-more session requests h more replies none share =
     sym (moves_by-more (Session session) h more none) in
     record {
       owned =
-          subst (AllByRecursion (λ (m : Move). Contains (map (λ (s : Request). s.line) requests) m.entry.line))
+          subst (AllByRecursion (λ (m : Move). Contains (map (λ
+          (s : Request). s.line) requests) m.entry.line))
           same share.owned;
       order = subst (λ (ms : List Move). NeverFall 0 (lines_of ms)) same share.order;
       answered = subst (λ (ms : List Move). Went Form ms requests replies) same share.answered;
@@ -45,7 +46,8 @@ pub IsLegal-shares : (script : Script) (h : List Entry) (replies : List Shown)
     → IsRegular h → AllByRecursion (λ entry. IsActor (length script.names) entry.actor) h
     → AllByRecursion (λ shown. shown.session < length script.names) replies
     → ((session : ℕ) → session < length script.names
-    → HoldsInPrefix (Session session) h (λ seen. SessionShare session (requests_by session (statements script))
+    → HoldsInPrefix (Session session) h (λ seen. SessionShare session (requests_by session
+    (statements script))
     seen (shown_to session replies)))
     → ((worker : ℕ) → HoldsInPrefix (Worker worker) h (λ seen. WorkerShare worker seen))
     → IsLegal script h replies

@@ -14,10 +14,10 @@ use Rattle.pj_bind.specs.Binding.{new_names, At, causes}
 use Rattle.pj_bind.proofs.CauseLemmas.{Each, First-each}
 use Rattle.pj_legal.specs.Bodies.{IsUnreadable, IsBodyRefusal}
 use Rattle.pj_legal.specs.Laws.{IsOneLine, IsPlainRefusal}
-use Rattle.pj_legal.proofs.ListLemmas.{All-front, All-back, All-slice_get, All-find}
-use Rattle.pj_legal.proofs.PlainTrees.{ArePlain}
-use Rattle.pj_legal.proofs.PlainStatements.{IsPlainStatement}
-use Rattle.pj_legal.proofs.PlainLexemes.{plain-body}
+use Rattle.pj_legal.proofs.histories.ListLemmas.{All-front, All-back, All-slice_get, All-find}
+use Rattle.pj_legal.proofs.plain.PlainTrees.{ArePlain}
+use Rattle.pj_legal.proofs.plain.PlainStatements.{IsPlainStatement}
+use Rattle.pj_legal.proofs.plain.PlainLexemes.{plain-body}
 
 -- no line feed in a name that it gives, and it isn't for a full journal
 abbrev pub IsPlainCause : Refusal → Type 0
@@ -34,7 +34,8 @@ gives_naming : (telling : Name → Refusal) (fact : Name → Type 0)
     → ((name : Name) → fact name → IsPlainCause (telling name)) → Gives (telling naming fact)
 gives_naming telling fact holds refusal h = subst IsPlainCause (sym h.1) (holds h.0 h.2)
 
-gives_at : (tables : List Table) (name : Name) (cause : Table → Cause) → ((table : Table) → Gives (cause table))
+gives_at : (tables : List Table) (name : Name) (cause : Table → Cause) → ((table : Table) → Gives
+    (cause table))
     → Gives (At tables name cause)
 gives_at tables name cause holds refusal h = holds h.1 refusal h.3
 
@@ -74,7 +75,8 @@ plain-causes tables (statements.Create name columns projections key settings) al
     not_built _ also gives_when (refusals.TableExists name) _ (λ h. (all.0, λ e. cc))
     also gives_when (refusals.Limit limits.Tables) _ (λ h. (tt, λ e. cc))
     also gives_when (refusals.Limit limits.Columns) _ (λ h. (tt, λ e. cc))
-    also repeats (new_names columns) (All-front IsOneLine (new_names columns) key all.1) also repeats key of_key
+    also repeats (new_names columns) (All-front IsOneLine (new_names columns) key all.1) also repeats key
+    of_key
     also unknown (new_names columns) key of_key also none
   where
     of_key : ArePlain key
@@ -122,4 +124,5 @@ pub plain-refusal : (tables : List Table) (body : List ℕ) (refusal : Refusal)
     → IsPlainCause refusal
 plain-refusal tables body refusal (inl unreadable) = plain-unreadable body refusal unreadable
 plain-refusal tables body refusal (inr (s, reads, is)) =
-    First-each IsPlainCause (causes tables s) (plain-causes tables s (plain-body body s reads)).each refusal is
+    First-each IsPlainCause (causes tables s) (plain-causes tables s
+    (plain-body body s reads)).each refusal is

@@ -1,5 +1,6 @@
 -- Runs of whole statements are legal.
-use Rattle.std.proofs.Common.{◌≡◌, ℕ, ◌+◌, ◌<◌, ◌≤◌, ◌++◌, length, Bool, true, false, cond, List, [], ◌∷◌, map}
+use Rattle.std.proofs.Common.{◌≡◌, ℕ, ◌+◌, ◌<◌, ◌≤◌, ◌++◌, length, Bool, true, false, cond, List, [], ◌∷◌}
+use Rattle.std.proofs.Common.{map}
 use Rattle.std.proofs.Common.{zero, suc, Option, Some, sym, refl, ap, ◌∙◌, subst, inl, arith}
 use Rattle.std.proofs.Common.{append-nil, append_assoc, length-append}
 use Rattle.std.specs.Prelude.{◌==◌, take, filter, Contains}
@@ -24,12 +25,13 @@ use Rattle.pj_legal.specs.Full.{TellsFull, KeepsLimit, next_line}
 use Rattle.pj_legal.specs.Run.{Run, IsStep, course, shown_at, cut}
 use Rattle.pj_legal.specs.Joining.{AreNotBy}
 use Rattle.pj_legal.specs.Laws.{request_lines, AreNamed}
-use Rattle.pj_legal.proofs.MoveLemmas.{AreOn, AreUpTo, AreBehind, AreBy, lines, moved_by}
-use Rattle.pj_legal.proofs.MoveLemmas.{moves_from-append, entries-moves_from, filter-not_by, filter-by}
-use Rattle.pj_legal.proofs.MoveLemmas.{for_line-middle, AreOff-up_to, AreOff-behind, AreUpTo-append}
-use Rattle.pj_legal.proofs.MoveLemmas.{AreBehind-append, NeverFall-append, NeverFall-filter}
+use Rattle.pj_legal.proofs.histories.MoveLemmas.{AreOn, AreUpTo, AreBehind, AreBy, lines, moved_by}
+use Rattle.pj_legal.proofs.histories.MoveLemmas.{moves_from-append, entries-moves_from, filter-not_by}
+use Rattle.pj_legal.proofs.histories.MoveLemmas.{filter-by}
+use Rattle.pj_legal.proofs.histories.MoveLemmas.{for_line-middle, AreOff-up_to, AreOff-behind, AreUpTo-append}
+use Rattle.pj_legal.proofs.histories.MoveLemmas.{AreBehind-append, NeverFall-append, NeverFall-filter}
 use Rattle.pj_legal.proofs.FormLemmas.{AreOf, MovesAreOf-form}
-use Rattle.pj_legal.proofs.ListLemmas.{All-back, All-append, All-map}
+use Rattle.pj_legal.proofs.histories.ListLemmas.{All-back, All-append, All-map}
 
 -- ---- whole statements
 
@@ -45,7 +47,8 @@ AreWithin count requests = AllByRecursion (λ request. request.session < count) 
 abbrev ends_at : Option Request → ℕ → ℕ
 ends_at found line = unwrap_or (option_and_then (λ request. request.shown) found) line
 
-end_of-step : (line : ℕ) (request : Request) (rest : Option Request) (b : Bool) → request.shown ≡ Some request.line
+end_of-step : (line : ℕ) (request : Request) (rest : Option Request) (b : Bool) → request.shown
+    ≡ Some request.line
     → (b ≡ true → request.line ≡ line) → ends_at rest line ≡ line
     → ends_at (cond b (Some request) rest) line ≡ line
 end_of-step line request rest true whole same none = ap (λ (o : Option ℕ). unwrap_or o line) whole ∙ same refl
@@ -92,7 +95,8 @@ AreOf-ran limit place request added reply ran =
     (MovesAreOf-form request (course place added reply) ran.form)
 
 -- those of a session's statement are by the session
-AreBy-of : (request : Request) (session : ℕ) (es : List Entry) → (request.session == session) ≡ true → AreOf request es
+AreBy-of : (request : Request) (session : ℕ) (es : List Entry) → (request.session == session) ≡ true
+    → AreOf request es
     → AreBy (Session session) es
 AreBy-of request session [] same all = tt
 AreBy-of request session (e ∷ es) same all =
@@ -106,7 +110,8 @@ AreNotBy-of request session (e ∷ es) other all =
     (ap (λ x. is_by (Session session) x) all.0 ∙ other, AreNotBy-of request session es other all.1)
 
 -- nor are they a worker's
-AreNotBy-worker : (request : Request) (worker : ℕ) (es : List Entry) → AreOf request es → AreNotBy (Worker worker) es
+AreNotBy-worker : (request : Request) (worker : ℕ) (es : List Entry) → AreOf request es → AreNotBy
+    (Worker worker) es
 AreNotBy-worker request worker [] all = tt
 AreNotBy-worker request worker (e ∷ es) all =
     (ap (λ x. is_by (Worker worker) x) all.0, AreNotBy-worker request worker es all.1)
@@ -118,7 +123,8 @@ IsActor-of count request es within of =
     All-map (λ e. e ≡ entry_of request e.what) (λ e. IsActor count e.actor) es
     (λ e is. subst (λ (x : Entry). IsActor count x.actor) (sym is) within) of
 
-IsSession-of : (request : Request) (es : List Entry) → AreOf request es → AllByRecursion (λ e. IsSession e.actor) es
+IsSession-of : (request : Request) (es : List Entry) → AreOf request es → AllByRecursion
+    (λ e. IsSession e.actor) es
 IsSession-of request es of =
     All-map (λ e. e ≡ entry_of request e.what) (λ e. IsSession e.actor) es
     (λ e is. subst (λ (x : Entry). IsSession x.actor) (sym is) tt) of
@@ -143,7 +149,8 @@ IsFor-first request requests place (e ∷ es) on =
     ((0, omega arith, sym on.0), IsFor-first request requests (place ++ e ∷ []) es on.1)
 
 -- what a run adds to its place
-pub record HasAdded (low : ℕ) (place : List Entry) (requests : List Request) (replies : List Shown) (h : List Entry)
+pub record HasAdded (low : ℕ) (place : List Entry) (requests : List Request) (replies : List Shown)
+    (h : List Entry)
     : Type 0 where
   pub new : List Entry
   pub grown : h ≡ place ++ new
@@ -182,14 +189,16 @@ owned-append request requests place added new session of rest =
     split : filter (moved_by (Session session)) (moves_from place (added ++ new)) ≡ mine ++ others
     split =
         ap (filter (moved_by (Session session))) (moves_from-append place added new)
-        ∙ filter-append (moved_by (Session session)) (moves_from place added) (moves_from (place ++ added) new)
+        ∙ filter-append (moved_by (Session session)) (moves_from place added) (moves_from (place
+        ++ added) new)
 
     on_line : AreOn request.line added
     on_line = AreOn-of request added of
 
     first : AllByRecursion (IsFor (requests_by session (request ∷ requests))) mine
     first =
-        cond_both (request.session == session) (request ∷ requests_by session requests) (requests_by session requests)
+        cond_both (request.session == session) (request ∷ requests_by session requests)
+        (requests_by session requests)
         (λ (ss : List Request). AllByRecursion (IsFor ss) mine)
         (λ same. subst (AllByRecursion (IsFor (request ∷ requests_by session requests)))
         (sym (filter-by (Session session) place added (AreBy-of request session added same of)))
@@ -198,7 +207,8 @@ owned-append request requests place added new session of rest =
         (sym (filter-not_by (Session session) place added (AreNotBy-of request session added other of))) tt)
 
 -- the first statement of a run: its entries, and where its reply is shown
-record FirstStep (limit : ℕ) (place : List Entry) (request : Request) (requests : List Request) (shown : Shown)
+record FirstStep (limit : ℕ) (place : List Entry) (request : Request) (requests : List Request)
+    (shown : Shown)
     (more : List Shown) (h : List Entry) : Type 0 where
   added : List Entry
   ran : IsStep limit place request added shown.reply
@@ -226,7 +236,8 @@ first_step limit place request requests shown more h (is, (added, ran, others)) 
 -- a run adds moves of its statements, line by line
 pub HasAdded-run : (limit low : ℕ) (place : List Entry) (requests : List Request) (replies : List Shown)
     (h : List Entry)
-    → Rise low (request_lines requests) → Run limit place requests replies h → HasAdded low place requests replies h
+    → Rise low (request_lines requests) → Run limit place requests replies h
+    → HasAdded low place requests replies h
 HasAdded-run limit low place [] [] h rise run = record {
   new = [];
   grown = run ∙ sym (append-nil place);
@@ -253,13 +264,15 @@ HasAdded-run limit low place (request ∷ requests) (shown ∷ more) h rise run 
       new = step.added ++ rest.new;
       grown = rest.grown ∙ append_assoc place step.added rest.new;
       behind = AreBehind-append low request.line step.added rest.new rise.0 step.on rest.behind;
-      order = NeverFall-append low request.line step.added rest.new (omega (arith, rise.0)) step.on rest.order;
+      order = NeverFall-append low request.line step.added rest.new (omega
+          (arith, rise.0)) step.on rest.order;
       rise = (
         subst (λ l. low < l) (sym step.at) rise.0,
         subst (λ l. Rise l (map (λ (s : Shown). s.line) more)) (sym step.at) rest.rise,
       );
       alone =
-          All-append (λ (e : Entry). IsSession e.actor) step.added rest.new (IsSession-of request step.added step.of) rest.alone;
+          All-append (λ (e : Entry). IsSession e.actor) step.added rest.new
+          (IsSession-of request step.added step.of) rest.alone;
       workers =
           λ worker. All-append (λ (e : Entry). is_by (Worker worker) e ≡ false) step.added rest.new
           (AreNotBy-worker request worker step.added step.of) (rest.workers worker);
@@ -269,7 +282,8 @@ HasAdded-run limit low place (request ∷ requests) (shown ∷ more) h rise run 
       heard =
           λ count within. (subst (λ n. n < count) (sym step.to) within.0, rest.heard count within.1);
       owned =
-          λ session. owned-append request requests place step.added rest.new session step.of (rest.owned session);
+          λ session. owned-append request requests place step.added rest.new session step.of
+          (rest.owned session);
     }
 
 -- ---- each statement of a run
@@ -277,11 +291,13 @@ HasAdded-run limit low place (request ∷ requests) (shown ∷ more) h rise run 
 -- a relation holds of each statement that a run of these is of, by its moves and its reply
 abbrev pub Goes : ℕ → (Request → Course → Type 0) → List Entry → Type 0
 Goes limit so h =
-    (place : List Entry) (request : Request) (added new : List Entry) (reply : Reply) → request.shown ≡ Some request.line
+    (place : List Entry) (request : Request) (added new : List Entry) (reply : Reply) → request.shown
+    ≡ Some request.line
     → h ≡ (place ++ added) ++ new → AreUpTo request.line (place ++ added) → AreBehind request.line new
     → IsStep limit place request added reply → so request (course place added reply)
 
-Went-step : (so : Request → Course → Type 0) (mine : List Move) (request : Request) (requests : List Request) (shown : Shown)
+Went-step : (so : Request → Course → Type 0) (mine : List Move) (request : Request)
+    (requests : List Request) (shown : Shown)
     (replies : List Shown) (b c : Bool)
     → b ≡ c → request.shown ≡ Some request.line → shown.line ≡ request.line
     → (b ≡ true → so request (record { moves = for_line request.line mine; reply = Some shown.reply }))
@@ -296,7 +312,8 @@ Went-step so mine request requests shown replies false true same whole at goes r
 Went-step so mine request requests shown replies false false same whole at goes rest = rest
 
 -- then it holds of those of each session
-pub Went-run : (limit : ℕ) (so : Request → Course → Type 0) (low : ℕ) (place : List Entry) (requests : List Request)
+pub Went-run : (limit : ℕ) (so : Request → Course → Type 0) (low : ℕ) (place : List Entry)
+    (requests : List Request)
     (replies : List Shown) (h : List Entry) (session : ℕ)
     → Goes limit so h → AreWhole requests → AreUpTo low place → Rise low (request_lines requests)
     → Run limit place requests replies h
@@ -305,15 +322,18 @@ Went-run limit so low place [] [] h session goes whole below rise run = refl
 Went-run limit so low place [] (shown ∷ more) h session goes whole below rise run = absurd run
 Went-run limit so low place (request ∷ requests) [] h session goes whole below rise run = absurd run
 Went-run limit so low place (request ∷ requests) (shown ∷ more) h session goes whole below rise run =
-    Went-step so (moves_by (Session session) h) request (requests_by session requests) shown (shown_to session more)
+    Went-step so (moves_by (Session session) h) request (requests_by session requests) shown
+    (shown_to session more)
     (request.session == session) (shown.session == session)
     (ap (λ n. n == session) (sym step.to)) whole.0 step.at
     (λ same. subst (λ (ms : List Move). so request (record { moves = ms; reply = Some shown.reply }))
     (sym (for_line-middle request.line (Session session) place step.added rest.new h
-    (AreOff-up_to low request.line place rise.0 below) step.on (AreBy-of request session step.added same step.of)
+    (AreOff-up_to low request.line place rise.0 below) step.on
+    (AreBy-of request session step.added same step.of)
     (AreOff-behind request.line rest.new rest.behind) rest.grown))
     (goes place request step.added rest.new shown.reply whole.0 rest.grown upto rest.behind step.ran))
-    (Went-run limit so request.line (place ++ step.added) requests more h session goes whole.1 upto rise.1 step.others)
+    (Went-run limit so request.line (place ++ step.added) requests more h session goes whole.1 upto rise.1
+    step.others)
   where
     step : FirstStep limit place request requests shown more h
     step = first_step limit place request requests shown more h run
@@ -329,11 +349,13 @@ Goes-form : (limit : ℕ) (h : List Entry) → Goes limit Form h
 Goes-form limit h place request added new reply whole grown upto behind ran = ran.form
 
 -- the line of a whole statement's next move
-next_line-whole : (request : Request) (ms : List Move) → request.shown ≡ Some request.line → next_line request ms ≡ request.line
+next_line-whole : (request : Request) (ms : List Move) → request.shown ≡ Some request.line
+    → next_line request ms ≡ request.line
 next_line-whole request [] whole = refl
 next_line-whole request (m ∷ ms) whole = ap (λ (o : Option ℕ). unwrap_or o request.line) whole
 
-nothing-behind : (line : ℕ) (new : List Entry) → AreBehind line new → AllByRecursion (λ l. l ≤ line) (lines new)
+nothing-behind : (line : ℕ) (new : List Entry) → AreBehind line new → AllByRecursion (λ l. l ≤ line)
+    (lines new)
     → length new ≡ 0
 nothing-behind line [] behind upto = refl
 nothing-behind line (e ∷ es) behind upto = absurd (omega (arith, behind.0, upto.0))
@@ -372,7 +394,8 @@ Goes-full limit all h are within place request added new reply whole grown upto 
       (subst (AllByRecursion (λ o. o ≤ next_line request (moves_from place added)))
       (lines_run-whole all [] h are) was.last) in
       let split : AllByRecursion (λ l. l ≤ request.line) (lines (place ++ added) ++ lines new) =
-      subst (AllByRecursion (λ l. l ≤ request.line)) (ap lines grown ∙ lines-append (place ++ added) new) last in
+      subst (AllByRecursion (λ l. l ≤ request.line)) (ap lines grown ∙ lines-append (place
+      ++ added) new) last in
       let none : length new ≡ 0 =
       nothing-behind request.line new behind
       (All-back (λ l. l ≤ request.line) (lines (place ++ added)) (lines new) split) in
@@ -466,7 +489,8 @@ IsPlayed-run limit script replies h rise named run regular within = (played, kee
     }
 
 -- the lines of the first statements rise too
-Rise-take : (n low : ℕ) (requests : List Request) → Rise low (request_lines requests) → Rise low (request_lines (take n requests))
+Rise-take : (n low : ℕ) (requests : List Request) → Rise low (request_lines requests) → Rise low
+    (request_lines (take n requests))
 Rise-take zero low requests rise = tt
 Rise-take (suc n) low [] rise = tt
 Rise-take (suc n) low (request ∷ requests) rise = (rise.0, Rise-take n request.line requests rise.1)
@@ -495,7 +519,8 @@ IsPlayed-cut limit n script replies h rise named run regular within =
     regular within
 
 -- one more statement
-pub Run-push : (limit : ℕ) (place : List Entry) (requests : List Request) (replies : List Shown) (mid : List Entry)
+pub Run-push : (limit : ℕ) (place : List Entry) (requests : List Request) (replies : List Shown)
+    (mid : List Entry)
     (request : Request) (added : List Entry) (reply : Reply)
     → Run limit place requests replies mid → IsStep limit mid request added reply
     → Run limit place (requests ++ request ∷ []) (replies ++ shown_at request reply ∷ []) (mid ++ added)
@@ -503,5 +528,12 @@ Run-push limit place [] [] mid request added reply run ran =
     (refl, (added, subst (λ from. IsStep limit from request added reply) run ran, ap (λ es. es ++ added) run))
 Run-push limit place [] (r ∷ more) mid request added reply run ran = absurd run
 Run-push limit place (s ∷ requests) [] mid request added reply run ran = absurd run
-Run-push limit place (s ∷ requests) (r ∷ more) mid request added reply run ran =
-    (run.0, (run.1.0, run.1.1, Run-push limit (place ++ run.1.0) requests more mid request added reply run.1.2 ran))
+Run-push limit place (s ∷ requests) (r ∷ more) mid request added reply run ran = (
+  run.0,
+  (
+    run.1.0,
+    run.1.1,
+    Run-push limit (place ++ run.1.0) requests more mid request added reply
+        run.1.2 ran,
+  ),
+)

@@ -38,8 +38,8 @@ abbrev pub HaveOneShape : Reply → Reply → Type 0
 HaveOneShape (replies.Rows out) (replies.Rows other) = out.kinds ≡ other.kinds
 HaveOneShape reply other = Unit {0}
 
--- a text that begins with a reply fixes its line, its name, the reply, and the text behind it, where the kinds
--- of its columns are known
+-- a text that begins with a reply fixes its line, its name, the reply, and the text behind it, where the
+-- kinds of its columns are known
 abbrev pub TextFixesReply : Type 0
 TextFixesReply =
     (l m : ℕ) (a b : List ℕ) (r s : Reply) (more others : List ℕ) → l < 2 ^ 32 → m < 2 ^ 32 → IsName a

@@ -32,7 +32,7 @@ entry_of request what = record { actor = Session request.session; line = request
 abbrev pub move_of : Request → List Entry → What → Move
 move_of request place what = record { place = place; entry = entry_of request what }
 
--- the reply to a statement that ran out of memory
+-- the reply to a statement that was out of memory
 abbrev pub no_memory : Reply
 no_memory = replies.Refused refusals.NoMemory
 
@@ -75,7 +75,7 @@ IsFirstMove (bounds.Create table) what = what ≡ whats.Created table
 IsFirstMove (bounds.Insert table rows) what = what ≡ whats.Begun table
 IsFirstMove (bounds.Select table query) what = what ≡ whats.Looked table
 
--- a move after which the statement may still find no memory
+-- a move after which the statement may still be out of memory
 abbrev pub MayStarve : Bound → What → Type 0
 MayStarve (bounds.Create table) what = ⊥
 MayStarve (bounds.Insert table rows) what = what ≡ whats.Begun table
@@ -94,14 +94,14 @@ StopsAfter sort request course =
     ⊎ ((place : List Entry) × (bound : Bound) × (what : What) × BodyBinds (catalog place) request.body bound
     × sort bound what × (course.moves ≡ move_of request place what ∷ []))
 
--- the statement is answered that there was no memory, before its first move or behind one that it may stop
+-- the statement is answered that it was out of memory, before its first move or behind one that it may stop
 -- after
 pub record IsStarved (request : Request) (course : Course) : Type 0 where
   pub stopped : StopsAfter MayStarve request course
   pub reply : course.reply ≡ Some no_memory
 
--- the statement is answered that the journal was full, before its first move or behind one that has another to
--- come
+-- the statement is answered that the journal was full, before its first move or behind one that has another
+-- to come
 pub record IsShutOut (request : Request) (course : Course) : Type 0 where
   pub stopped : StopsAfter MovesOn request course
   pub reply : course.reply ≡ Some history_full

@@ -39,7 +39,8 @@ pub record WasFullAt (limit : ℕ) (requests : List Request) (h : List Entry) (l
   pub last : AllByRecursion (λ other. other ≤ line) (lines_run requests h)
 
 -- a statement's reply says that the journal was full exactly where it was full at the statement's next move
-pub record TellsFull (limit : ℕ) (requests : List Request) (h : List Entry) (request : Request) (course : Course)
+pub record TellsFull (limit : ℕ) (requests : List Request) (h : List Entry) (request : Request)
+    (course : Course)
     : Type 0 where
   pub only : course.reply ≡ Some history_full → WasFullAt limit requests h (next_line request course.moves)
   pub always :

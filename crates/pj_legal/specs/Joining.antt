@@ -1,5 +1,5 @@
--- Shares are joined to a legal history (docs/MODEL.md, "Shares"). On this law threads will stand, each of which
--- knows a prefix of the history.
+-- Shares are joined to a legal history (docs/MODEL.md, "Shares"). On this law threads will stand, each of
+-- which knows a prefix of the history.
 use Rattle.std.specs.Prelude.{◌≡◌, ℕ, ◌<◌, false, List, ◌++◌, length}
 use Rattle.std.specs.List.{AllByRecursion}
 use Rattle.pj_script.specs.declared.types.Script.{Script}
@@ -44,7 +44,8 @@ SharesAreLegal =
     → IsRegular h → AllByRecursion (λ entry. IsActor (length script.names) entry.actor) h
     → AllByRecursion (λ shown. shown.session < length script.names) replies
     → ((session : ℕ) → session < length script.names
-    → HoldsInPrefix (Session session) h (λ seen. SessionShare session (requests_by session (statements script))
+    → HoldsInPrefix (Session session) h (λ seen. SessionShare session (requests_by session
+    (statements script))
     seen (shown_to session replies)))
     → ((worker : ℕ) → HoldsInPrefix (Worker worker) h (λ seen. WorkerShare worker seen))
     → IsLegal script h replies

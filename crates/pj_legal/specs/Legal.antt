@@ -29,7 +29,8 @@ pub record IsLegal (script : Script) (h : List Entry) (replies : List Shown) : T
 -- the line that shows the reply to the statement of a line, and that line itself where none does
 abbrev pub end_of : List Request → ℕ → ℕ
 end_of requests line =
-    unwrap_or (option_and_then (λ request. request.shown) (find (λ request. request.line == line) requests)) line
+    unwrap_or (option_and_then (λ request. request.shown) (find
+    (λ request. request.line == line) requests)) line
 
 -- the line to which a move belongs: a statement's first move to its own, and a further one to that which ends
 -- the statement

@@ -31,8 +31,8 @@ Takes None this others replies = this None × others replies
 Takes (Some line) this others [] = ⊥
 Takes (Some line) this others (shown ∷ more) = (shown.line ≡ line) × this (Some shown.reply) × others more
 
--- each statement went so, by those of the moves that are for its line and by its reply; and there are no other
--- replies
+-- each statement went so, by those of the moves that are for its line and by its reply; and there are no
+-- other replies
 abbrev pub Went : (Request → Course → Type 0) → List Move → List Request → List Shown → Type 0
 Went so mine [] replies = replies ≡ []
 Went so mine (request ∷ requests) replies =

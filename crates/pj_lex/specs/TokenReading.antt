@@ -21,12 +21,12 @@ Found = TokenKind × List ℕ
 abbrev pub Read : Type 0
 Read = Result Found (List ℕ)
 
--- why the code found no token, unless memory ran out
+-- why the code found no token, unless it was out of memory
 abbrev pub Fails : Stuck → Read → Type 0
 Fails (stucks.At bytes) read = read ≡ Err bytes.now
 Fails stucks.NoMemory read = Unit {0}
 
--- what the code found is what is read, unless memory ran out
+-- what the code found is what is read, unless it was out of memory
 abbrev pub Gives : {X : Type 0} → (X → Found) → Result X Stuck → Read → Type 0
 Gives view (Ok x) read = read ≡ Ok (view x)
 Gives view (Err e) read = Fails e read

@@ -1,6 +1,6 @@
 //! The first token of some bytes, where it is the one that is asked for: for readers that know which token
-//! may come, and keep no list of tokens. Each call takes time linear in the token and the blanks before it, or
-//! what there is of a text that has no end.
+//! may come, and keep no list of tokens. Each call takes time linear in the token and the blanks before it,
+//! or what there is of a text that has no end.
 ghost use Rattle.std.specs.Prelude.{◌≡◌, ◌↔◌, IsTrue, IfOk};
 ghost use Rattle.pj_lex.specs.declared.token.Symbol.TheVariants as symbols;
 ghost use Rattle.pj_lex.specs.declared.token.TokenKind.TheVariants as kinds;

@@ -133,7 +133,8 @@ fn read_plain(bytes: &[u8]) -> Option<(TokenKind, &[u8])>
     }
 }
 
-/// The token at the start, where no blank is next, and the bytes behind it. It takes time linear in the token.
+/// The token at the start, where no blank is next, and the bytes behind it. It takes time linear in the
+/// token.
 #[tactic(auto, unfolding(crate::specs::TokenReading::token_at))]
 pub fn read_token(alloc: Global, bytes: &[u8]) -> Result<(TokenKind, &[u8]), Stuck<'_>>
     ensures { Gives (λ x. (x.0, x.1.now)) result (token_at bytes.now) }

@@ -31,7 +31,8 @@ pub record IsPrefix (bytes blanks more : List ℕ) : Type 0 where
   pub blank : IsBlank blanks
   pub stops : StopsAt is_blank more
 
-pub prefix_of : (bytes : List ℕ) → IsPrefix bytes (take (prefix_len is_blank bytes) bytes) (after_blanks bytes)
+pub prefix_of : (bytes : List ℕ) → IsPrefix bytes (take (prefix_len is_blank bytes) bytes)
+    (after_blanks bytes)
 unfolding after_blanks
 prefix_of bytes = record {
   parts = sym (take-append-drop (prefix_len is_blank bytes) bytes);

@@ -57,7 +57,8 @@ fails_at_piece mode at names prefix bytes rest piece behind faults.NoMemory so_f
 -- no piece is left
 pub reads_all : (mode : ScriptMode) (at : ℕ) (names : List (List ℕ)) (prefix : List ScriptLine)
     (bytes rest : List ℕ)
-    → with_prefix prefix (lines_at mode at names (pieces rest)) ≡ lines_at mode 1 [] (pieces bytes) → rest ≡ []
+    → with_prefix prefix (lines_at mode at names (pieces rest)) ≡ lines_at mode 1 [] (pieces bytes) → rest
+    ≡ []
     → script_of mode bytes ≡ Ok (record {
       names = names;
       lines = prefix;

@@ -37,7 +37,8 @@ cond_none : {A : Type 0} (b : Bool) (x : A) → cond b (Some x) None ≡ None �
 cond_none true x e = absurd cc
 cond_none false x e = refl
 
-number_among-None : (names : List (List ℕ)) (name : List ℕ) → number_among names name ≡ None → Contains names name → ⊥
+number_among-None : (names : List (List ℕ)) (name : List ℕ) → number_among names name ≡ None
+    → Contains names name → ⊥
 number_among-None names name e (k, within, is) =
     let len = position_or_len (λ known. bytes_eq known name) names in
     let all : length names ≤ len =
@@ -63,7 +64,8 @@ number_among-new : (names : List (List ℕ)) (name : List ℕ) → (Contains nam
     → number_among names name ≡ None
 number_among-new names name new =
     elim (number_cases (number_among names name)) [
-      | inl found ↦ absurd (new (Contains-get names found.0 name (number_among-Some names name found.0 found.1)))
+      | inl found ↦ absurd (new (Contains-get names found.0 name
+          (number_among-Some names name found.0 found.1)))
       | inr none ↦ none
     ]
 
@@ -97,7 +99,11 @@ number_by-from mode at names after name number None none few e =
     (after, number) at e in
     let room = ltb-true (length names) (names_limit mode) both.0 in
     let P : List (List ℕ) × ℕ → Type 0 = λ x. NumbersFew mode names x.0 name x.1 in
-    subst P both.1 (inr (number_among-None names name none, refl, refl), omega (arith, length_push names name))
+    subst P both.1 (
+      inr (number_among-None names name none, refl, refl),
+      omega
+          (arith, length_push names name),
+    )
 
 pub Numbers-from : (mode : ScriptMode) (at : ℕ) (names after : List (List ℕ)) (name : List ℕ) (number : ℕ)
     → length names ≤ names_limit mode

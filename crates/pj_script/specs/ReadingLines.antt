@@ -18,12 +18,12 @@ abbrev pub ◌>>=◌ : {A B : Type 0} → Result A ℕ → (A → Result B ℕ) 
 (Ok x) >>= f = f x
 (Err n) >>= f = Err n
 
--- what a function refused is what reading refuses, unless memory ran out
+-- what a function refused is what reading refuses, unless it was out of memory
 abbrev pub Fails : {Y : Type 0} → ScriptFault → Result Y ℕ → Type 0
 Fails (BadLine n) read = read ≡ Err n
 Fails NoMemory read = Unit {0}
 
--- what a function returned, seen by view, is what reading gives, unless memory ran out
+-- what a function returned, seen by view, is what reading gives, unless it was out of memory
 abbrev pub Gives : {X Y : Type 0} → (X → Y) → Result X ScriptFault → Result Y ℕ → Type 0
 Gives view (Ok x) read = read ≡ Ok (view x)
 Gives view (Err fault) read = Fails fault read

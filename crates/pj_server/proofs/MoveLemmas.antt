@@ -78,7 +78,8 @@ bound_fits fit ts tables (statements.Create name columns projections key setting
       can.room.tables_left,
       fit ts (statements.Create name columns projections key settings) tables table line (can, refl),
     )
-bound_fits fit ts tables (statements.Insert name columns rows) bound line (place, table, at, named, fill, is) =
+bound_fits fit ts tables (statements.Insert name columns rows) bound line
+    (place, table, at, named, fill, is) =
     subst (BoundFits tables) (sym is) ((table, at.0, refl), filled_kinds table.columns columns rows fill)
 bound_fits fit ts tables (statements.Select select) bound line (place, table, at, (query, asks, is)) =
     subst (BoundFits tables) (sym is) (table, at.0, asks_fits table select query asks)
@@ -143,7 +144,8 @@ no_memory-full : no_memory ≡ history_full → ⊥
 no_memory-full same = cc
 
 -- out of memory, though the journal has room
-pub serves_no_memory : (a b : Log) (request : Request) → Adds a b [] → (IsFull a → ⊥) → Serves a b request no_memory
+pub serves_no_memory : (a b : Log) (request : Request) → Adds a b [] → (IsFull a → ⊥)
+    → Serves a b request no_memory
 serves_no_memory a b request none room = (
   [],
   none,
@@ -280,13 +282,15 @@ serves_bound old new by body bound reply binds does = (
   },
 )
 
-pub does_no_memory : (a b : Log) (request : Request) (bound : Bound) → length a.entries < a.limit → Adds a b []
+pub does_no_memory : (a b : Log) (request : Request) (bound : Bound) → length a.entries < a.limit
+    → Adds a b []
     → Does a b request bound no_memory
 does_no_memory a b request bound below none =
     ([], none, inr (inl (refl, inl refl, λ fills next. omega (arith, fills, below))))
 
 pub does_create : (a b : Log) (request : Request) (table : Table)
-    → Adds a b (entry_of request (whats.Created table) ∷ []) → Does a b request (bounds.Create table) replies.Done
+    → Adds a b (entry_of request (whats.Created table) ∷ []) → Does a b request
+    (bounds.Create table) replies.Done
 does_create a b request table adds = (entry_of request (whats.Created table) ∷ [], adds, inl (refl, refl))
 
 -- an INSERT began, and the journal was full, or it was out of memory, or it committed
@@ -306,7 +310,8 @@ module _ (a b c : Log) (request : Request) (table : ℕ) (rs : KindedRows)
     inr (inr (refl, inr (whats.Begun table, refl, refl), omega (arith, long, full, begun.limit))),
   )
 
-  pub insert_stops : (IsFull b → ⊥) → (d : Log) → Adds c d [] → Does a d request (bounds.Insert table rs) no_memory
+  pub insert_stops : (IsFull b → ⊥) → (d : Log) → Adds c d [] → Does a d request
+      (bounds.Insert table rs) no_memory
   insert_stops room_left d none = (
     entry_of request (whats.Begun table) ∷ [],
     Adds-trans a c d _ [] began none,
@@ -317,7 +322,8 @@ module _ (a b c : Log) (request : Request) (table : ℕ) (rs : KindedRows)
     )),
   )
 
-  pub insert_commits : (d : Log) (block : ℕ) → Adds c d (entry_of request (whats.Inserted table block rs) ∷ [])
+  pub insert_commits : (d : Log) (block : ℕ) → Adds c d (entry_of request
+      (whats.Inserted table block rs) ∷ [])
       → Does a d request (bounds.Insert table rs) replies.Done
   insert_commits d block adds = (
     entry_of request (whats.Begun table) ∷ entry_of request (whats.Inserted table block rs) ∷ [],

@@ -124,7 +124,8 @@ RunsLines-more goes_on texts end i old mid new names lines line a b c lt at so_f
     let ran : IsStep old.limit mid.entries request added one.reply =
     subst (λ l. IsStep l mid.entries request added one.reply) so_far.limit one.serves.2 in
     let run =
-    goes_on old.limit old.entries requests so_far.replies mid.entries request added one.reply so_far.run ran in
+    goes_on old.limit old.entries requests so_far.replies mid.entries request added one.reply so_far.run ran
+    in
     let shown : Shown = shown_at request one.reply in
     let text =
     Writes-after end a b c (replies_text names so_far.replies) (shown_text names shown) so_far.written

@@ -96,7 +96,8 @@ tells_bad_line law SourceFailed wish left rest h a b ends source sink bytes line
     absurd (source refl)
 tells_bad_line law TooLarge wish left rest h a b ends source sink bytes line told few bad taken =
     absurd (too_long bytes ends.1.0 rest (subst (λ l. Consumes l rest ends.1.0) told ends.1.2) ends.1.1 few)
-tells_bad_line law (BadLine first) wish left rest h a b ends source sink bytes line told few bad taken = inl refl
+tells_bad_line law (BadLine first) wish left rest h a b ends source sink bytes line told few bad taken = inl
+    refl
 tells_bad_line law SinkFailed wish left rest h a b ends source sink bytes line told few bad taken =
     absurd (sink refl)
 tells_bad_line law NoMemory wish left rest h a b ends source sink bytes line told few bad taken = inr refl

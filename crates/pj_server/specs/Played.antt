@@ -63,8 +63,8 @@ abbrev pub output_of_part : ℕ → Bool → Script → List Entry → List Show
 output_of_part lines wanted script h replies =
     output (wanted && nat_le (length script.lines) lines) (cut lines script) h replies
 
--- the bytes spell a script, the history is legal for it with these replies, as a single thread leaves it, each
--- tells a full journal where it was full, and their text was written
+-- the bytes spell a script, the history is legal for it with these replies, as a single thread leaves it,
+-- each tells a full journal where it was full, and their text was written
 pub record PlaysScript (limit : ℕ) (wanted : Bool) (bytes : List ℕ) (h : List Entry)
     (before after : Option (List ℕ)) : Type 0 where
   pub script : Script
@@ -74,8 +74,8 @@ pub record PlaysScript (limit : ℕ) (wanted : Bool) (bytes : List ℕ) (h : Lis
   pub kept : KeepsLimit limit script h replies
   pub written : Appends before after (output wanted script h replies)
 
--- the bytes spell a script, the same holds of it cut after some lines, and a proper prefix of the text of that
--- was written
+-- the bytes spell a script, the same holds of it cut after some lines, and a proper prefix of the text of
+-- that was written
 pub record PlaysPart (limit : ℕ) (wanted : Bool) (bytes : List ℕ) (h : List Entry)
     (before after : Option (List ℕ)) : Type 0 where
   pub script : Script

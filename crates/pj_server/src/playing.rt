@@ -64,9 +64,9 @@ pub struct Played {
 /// them.
 ///
 /// The arguments are the program's name and then nothing or that one flag, as `wants_history` reads them. The
-/// statuses are 0 where the script was run and all was written, 2 for arguments that aren't taken, 4 where the
-/// source failed, 7 for too many bytes, 3 for a bad line, 5 where the sink failed, and 6 where the call itself
-/// was out of memory.
+/// statuses are 0 where the script was run and all was written, 2 for arguments that aren't taken, 4 where
+/// the source failed, 7 for too many bytes, 3 for a bad line, 5 where the sink failed, and 6 where the call
+/// itself was out of memory.
 pub fn play<R: Source, W: Sink>(
     alloc: Global,
     arguments: &[String],
@@ -94,7 +94,8 @@ pub fn play<R: Source, W: Sink>(
     // The headline: the source's bytes spell a script, the history is legal for it with these replies, and
     // their text was written.
     ensures done { result.status ≡ 0
-        → Reads ends.Finished (wish_of (map string_bytes arguments.now)) (R.left source.old) (R.left source.new)
+        → Reads ends.Finished (wish_of (map string_bytes arguments.now)) (R.left source.old)
+        (R.left source.new)
         result.history.entries (W.taken sink.old) (W.taken sink.new) }
 
     // The history is legal for the script cut after some lines, and a proper prefix of the text of that was
@@ -204,7 +205,7 @@ pub fn play_bytes<W: Sink>(
     bytes: Vec<u8>,
     sink: &mut W,
 ) -> Played
-    requires { length bytes.items ≤ 16777216 }
+    requires { length bytes.items ≤ script_bytes }
     ensures runs { RunsSo result.end limit wanted bytes.items result.history.entries (W.taken sink.old)
         (W.taken sink.new) }
     ensures sink_failed { result.end ≡ End.SinkFailed → Rose (W.faults sink.old) (W.faults sink.new) }

@@ -16,7 +16,7 @@ use pj_bind::{BindFault, bind, bound_tables_fit};
 use pj_expr::{Query, Table};
 use pj_group::select;
 use pj_journal::types::Catalog;
-use pj_journal::{Actor, Entry, Journal, MoveFault, What};
+use pj_journal::{Actor, Entry, Journal, MoveFault, TABLES, What};
 use pj_legal::{Parsed, Reply, history_refuses_no_body, read_statement};
 use pj_value::{NoMemory, Rows};
 use std::alloc::Global;
@@ -179,7 +179,7 @@ impl Server {
     fn create(&mut self, alloc: Global, by: By, table: Table) -> Result<(), NoMemory>
         requires room { 1 ≤ self.old.spare }
         requires unknown { IsUnknown (catalog self.old.entries) table.name }
-        requires few { length (catalog self.old.entries) < 64 }
+        requires few { length (catalog self.old.entries) < TABLES }
         requires table { TableFits table }
         ensures done { OnOk result
             (Adds self.old self.new (entry_of (request_of by) (What.Created table) ∷ [])) }

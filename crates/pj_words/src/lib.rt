@@ -1,5 +1,5 @@
-//! The arguments of `projplay`, read by `clap`: whether the text of the history is wanted, what the program is to say
-//! of itself, or why they aren't taken.
+//! The arguments of `projplay`, read by `clap`: whether the text of the history is wanted, what the program
+//! is to say of itself, or why they aren't taken.
 #![tactic(auto)]
 
 mod about;

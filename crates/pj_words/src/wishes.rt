@@ -18,8 +18,8 @@ use std::alloc::Global;
 pub(crate) enum Asked {
     /// A run of a script.
     Run { history: bool },
-    /// No run. The kind of this error tells whether the program is to say something of itself, or the arguments
-    /// aren't taken.
+    /// No run. The kind of this error tells whether the program is to say something of itself, or the
+    /// arguments aren't taken.
     NoRun(Error),
 }
 
@@ -60,8 +60,8 @@ pub fn wants_history(alloc: Global, arguments: &[String]) -> Result<bool, WordsF
     }
 }
 
-/// What the arguments ask the program to say of itself, as by `--help` or `--version`. None where they ask for
-/// no such thing: then they ask for a run or aren't taken.
+/// What the arguments ask the program to say of itself, as by `--help` or `--version`. None where they ask
+/// for no such thing: then they ask for a run or aren't taken.
 pub fn asked_about(alloc: Global, arguments: &[String]) -> Result<Option<About>, NoMemory>
     ensures { IfOk result (λ about. about ≡ about_of (map string_bytes arguments.now)) }
 {

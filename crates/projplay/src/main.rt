@@ -1,5 +1,5 @@
-//! `projplay`: runs a script of SQL sessions from standard input and writes the replies to standard output. Standard
-//! error gets why a run failed.
+//! `projplay`: runs a script of SQL sessions from standard input and writes the replies to standard output.
+//! Standard error gets why a run failed.
 #![tactic(auto)]
 
 use pj_io::{GiveFault, ReaderSource, Sink, WriterSink, write_all};

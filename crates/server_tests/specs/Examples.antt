@@ -72,7 +72,8 @@ NeverEnds =
 
 -- but it doesn't commit
 abbrev pub NeverCommits : Type 0
-NeverCommits = (given : Given) → SessionShare 0 (inserting given None) (inserted given []) (done_at 1 ∷ []) → ⊥
+NeverCommits = (given : Given) → SessionShare 0 (inserting given None) (inserted given []) (done_at 1 ∷ [])
+    → ⊥
 
 -- a reply doesn't stand at the line where its statement began, if another line ends it
 abbrev pub NoReplyAtTheStart : Type 0

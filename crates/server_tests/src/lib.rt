@@ -1,5 +1,5 @@
-//! Tests of what no clause says of histories, replies, arguments and runs: that calls succeed where memory is ample, and
-//! worked examples.
+//! Tests of what no clause says of histories, replies, arguments and runs: that calls succeed where memory is
+//! ample, and worked examples.
 #![tactic(auto)]
 
 #[cfg(test)]

@@ -1,19 +1,17 @@
 //! What no clause says: that calls succeed where memory is ample, and worked examples.
+use crate::given::{push_row, rows_of};
 use pj_answer::*;
 use pj_block::*;
 use pj_expr::*;
-use pj_value::{AggKind, Cell, Kind, List, NoMemory, Rows, Text, Value};
+use pj_value::{AggKind, Cell, Kind, List, NoMemory, Rows, Text};
 use sqlite_items::Boxed;
 use std::alloc::Global;
 use std::test::Fail;
 
 /// Three rows of a number and a text.
 fn three_rows(alloc: Global) -> Result<Rows, Fail> {
-    let mut rows = Rows::new(alloc, &[Kind::Num, Kind::Text])?;
-    rows.push(&[Value::Num(7), Value::Text(Text::new(alloc, b"a")?)])?;
-    rows.push(&[Value::Num(u64::MAX), Value::Text(Text::new(alloc, b"")?)])?;
-    rows.push(&[Value::Num(10), Value::Text(Text::new(alloc, b"ab\xff")?)])?;
-    Ok(rows)
+    let given: [(u64, &[u8]); 3] = [(7, b"a"), (u64::MAX, b""), (10, b"ab\xff")];
+    rows_of(alloc, &given)
 }
 
 fn boxed(alloc: Global, expr: Expr) -> Result<Boxed<Expr>, NoMemory> {
@@ -442,7 +440,7 @@ fn a_count_has_one_row(rt: HostRuntime) -> Result<(), Fail> {
 /// The three rows, and a fourth whose number and text stand in them.
 fn four_rows(alloc: Global) -> Result<Rows, Fail> {
     let mut rows = three_rows(alloc)?;
-    rows.push(&[Value::Num(10), Value::Text(Text::new(alloc, b"a")?)])?;
+    push_row(alloc, &mut rows, 10, b"a")?;
     Ok(rows)
 }
 
@@ -516,11 +514,8 @@ fn calls_on_no_texts_give_the_empty_one(rt: HostRuntime) -> Result<(), Fail> {
 
 /// Three rows of a number and a text, of which the first and the last are the same.
 fn rows_with_twins(alloc: Global) -> Result<Rows, Fail> {
-    let mut rows = Rows::new(alloc, &[Kind::Num, Kind::Text])?;
-    rows.push(&[Value::Num(7), Value::Text(Text::new(alloc, b"a")?)])?;
-    rows.push(&[Value::Num(7), Value::Text(Text::new(alloc, b"b")?)])?;
-    rows.push(&[Value::Num(7), Value::Text(Text::new(alloc, b"a")?)])?;
-    Ok(rows)
+    let given: [(u64, &[u8]); 3] = [(7, b"a"), (7, b"b"), (7, b"a")];
+    rows_of(alloc, &given)
 }
 
 /// A query that counts rows by these values, the least count first.

@@ -1,21 +1,23 @@
 //! What no clause says of answers by columns: that calls succeed where memory is ample, and worked examples.
+use crate::given::rows_of;
 use pj_answer::answer;
 use pj_expr::{AggCall, Cond, Expr, Item, Op, OrderKey, Query, fits_query};
 use pj_group::select;
-use pj_value::{AggKind, Kind, List, NoMemory, Rows, Text, Value};
+use pj_value::{AggKind, List, NoMemory, Rows, Text};
 use sqlite_items::Boxed;
 use std::alloc::Global;
 use std::test::Fail;
 
 /// Five rows of a number and a text.
 fn five_rows(alloc: Global) -> Result<Rows, Fail> {
-    let mut rows = Rows::new(alloc, &[Kind::Num, Kind::Text])?;
-    rows.push(&[Value::Num(7), Value::Text(Text::new(alloc, b"a")?)])?;
-    rows.push(&[Value::Num(u64::MAX), Value::Text(Text::new(alloc, b"")?)])?;
-    rows.push(&[Value::Num(10), Value::Text(Text::new(alloc, b"ab\xff")?)])?;
-    rows.push(&[Value::Num(10), Value::Text(Text::new(alloc, b"a")?)])?;
-    rows.push(&[Value::Num(3), Value::Text(Text::new(alloc, b"b")?)])?;
-    Ok(rows)
+    let given: [(u64, &[u8]); 5] = [
+        (7, b"a"),
+        (u64::MAX, b""),
+        (10, b"ab\xff"),
+        (10, b"a"),
+        (3, b"b"),
+    ];
+    rows_of(alloc, &given)
 }
 
 /// A query of these items over all rows.

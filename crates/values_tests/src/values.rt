@@ -3,6 +3,7 @@ ghost use Rattle.std.specs.Prelude.{◌≡◌, ◌<◌, IsTrue, length};
 ghost use Rattle.std.specs.List.{All};
 ghost use Rattle.pj_value.specs.Rows.{rows_in};
 
+use crate::given::push_row;
 use pj_value::*;
 use std::alloc::Global;
 use std::cmp::Ordering;
@@ -29,9 +30,9 @@ fn rows_give_back_what_was_added(rt: HostRuntime) -> Result<(), Fail> {
     let alloc = rt.alloc();
     let mut rows = Rows::new(alloc, &[Kind::Num, Kind::Text])?;
     assert!(rt; rows.is_empty() && is_shared(&rows));
-    rows.push(&[Value::Num(7), text(alloc, b"a")?])?;
+    push_row(alloc, &mut rows, 7, b"a")?;
     let copy = rows.duplicate()?;
-    rows.push(&[Value::Num(u64::MAX), text(alloc, b"")?])?;
+    push_row(alloc, &mut rows, u64::MAX, b"")?;
     assert!(rt; copy.kinds() == rows.kinds());
     rows.append(&copy)?;
     assert!(rt; rows.len() == 3 && rows.kinds().len() == 2);
@@ -40,19 +41,39 @@ fn rows_give_back_what_was_added(rt: HostRuntime) -> Result<(), Fail> {
     Ok(())
 }
 
+/// What a row of so many numbers is answered.
+fn push_numbers(
+    alloc: Global,
+    rows: &mut Rows,
+    count: u64,
+) -> Result<Result<(), PushFault>, NoMemory> {
+    let mut row = Vec::new(alloc);
+    for number in 0..count {
+        row.push(Value::Num(number))?;
+    }
+    Ok(rows.push(row.as_slice()))
+}
+
+/// What a row of a number and a text is answered.
+fn push_with_text(
+    alloc: Global,
+    rows: &mut Rows,
+    bytes: &[u8],
+) -> Result<Result<(), PushFault>, NoMemory> {
+    let text = text(alloc, bytes)?;
+    Ok(rows.push(&[Value::Num(1), text]))
+}
+
 #[test]
 fn a_row_of_another_shape_is_refused(rt: HostRuntime) -> Result<(), Fail> {
     let alloc = rt.alloc();
     let mut rows = Rows::new(alloc, &[Kind::Num, Kind::Num])?;
     let wrong = Err(PushFault::WrongShape);
-    assert_eq!(rt; rows.push(&[]), wrong);
-    assert_eq!(rt; rows.push(&[Value::Num(1)]), wrong);
-    assert_eq!(rt; rows.push(&[Value::Num(1), text(alloc, b"2")?]), wrong);
-    assert_eq!(rt;
-        rows.push(&[Value::Num(1), Value::Num(2), Value::Num(3)]),
-        wrong
-    );
-    assert_eq!(rt; rows.push(&[Value::Num(1), Value::Num(2)]), Ok(()));
+    assert_eq!(rt; push_numbers(alloc, &mut rows, 0)?, wrong);
+    assert_eq!(rt; push_numbers(alloc, &mut rows, 1)?, wrong);
+    assert_eq!(rt; push_with_text(alloc, &mut rows, b"2")?, wrong);
+    assert_eq!(rt; push_numbers(alloc, &mut rows, 3)?, wrong);
+    assert_eq!(rt; push_numbers(alloc, &mut rows, 2)?, Ok(()));
     assert_eq!(rt; rows.len(), 1);
     Ok(())
 }
@@ -219,7 +240,8 @@ fn seven(alloc: Global) -> Result<Rows, PushFault> {
         (1, b"ab", 6),
     ];
     for (number, bytes, index) in given {
-        rows.push(&[Value::Num(number), text(alloc, bytes)?, Value::Num(index)])?;
+        let text = text(alloc, bytes)?;
+        rows.push(&[Value::Num(number), text, Value::Num(index)])?;
     }
     Ok(rows)
 }

@@ -16,7 +16,8 @@ pub returns-clause-within : goal.returns-clause-within
 returns-clause-within c =
     let rows = c.args.rows.now.rows in
     let p = λ (at : ℕ). holds c.args.cond.now (get_or rows at []) in
-    All-same (λ at. at < length rows) c.in_ok-indexes.indexes.items (filter p (range_with_len 0 (length rows)))
+    All-same (λ at. at < length rows) c.in_ok-indexes.indexes.items (filter p (range_with_len 0
+    (length rows)))
     (returns-clause-indexes c) (indexes-within p (length rows))
 
 pub returns-clause-rows : goal.returns-clause-rows

@@ -1,7 +1,8 @@
 use Rattle.std.proofs.Common.{Some, None}
 use Rattle.pj_insert.specs.Inserts.{SpellsPrefix}
 use Rattle.pj_grammar.specs.grammar.Words.{name, listed}
-use Rattle.pj_insert.proofs.PrefixLemmas.{prefix_then, prefix_nothing, prefix_left, prefix_right, parens_prefix}
+use Rattle.pj_insert.proofs.PrefixLemmas.{prefix_then, prefix_nothing, prefix_left, prefix_right}
+use Rattle.pj_insert.proofs.PrefixLemmas.{parens_prefix}
 use Rattle.pj_insert.proofs.inserts.columns.Goals as goal
 
 pub returns-in_default : goal.returns-in_default

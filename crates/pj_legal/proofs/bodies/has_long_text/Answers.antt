@@ -1,5 +1,5 @@
 use Rattle.std.proofs.Common.{length, arith, lt-ltb, ltb-true}
-use Rattle.pj_legal.proofs.TextSizes.{HasLongText-long}
+use Rattle.pj_legal.proofs.texts.TextSizes.{HasLongText-long}
 use Rattle.pj_legal.proofs.bodies.has_long_text.Goals as goal
 
 pub returns-else-body-gt-TEXT : goal.returns-else-body-gt-TEXT

@@ -5,7 +5,7 @@ use Rattle.std.specs.Fmt.{decimal}
 use Rattle.pj_journal.specs.History.{catalog}
 use Rattle.pj_expr.specs.Tables.{names}
 use Rattle.pj_legal.specs.Texts.{as_line, entry_text, entries_text}
-use Rattle.pj_legal.proofs.Histories.{entries_text-more, names-created, names-other}
+use Rattle.pj_legal.proofs.histories.Histories.{entries_text-more, names-created, names-other}
 use Rattle.pj_legal.proofs.history.history_text.Goals as goal
 use Rattle.pj_legal.proofs.history.history_text.Goals.{in-Created+in_ok-push-2, in_default}
 

@@ -1,4 +1,4 @@
-use Rattle.pj_legal.proofs.TextLaws.{announced-same}
+use Rattle.pj_legal.proofs.texts.TextLaws.{announced-same}
 use Rattle.pj_legal.proofs.laws.announcements_are_told_apart.Goals as goal
 
 pub returns : goal.returns

@@ -1,4 +1,4 @@
-use Rattle.pj_legal.proofs.PlainReplies.{IsLegal-plain}
+use Rattle.pj_legal.proofs.plain.PlainReplies.{IsLegal-plain}
 use Rattle.pj_legal.proofs.laws.legal_replies_are_plain.Goals as goal
 
 pub returns : goal.returns

@@ -1,4 +1,4 @@
-use Rattle.pj_legal.proofs.TextLaws.{replies_text-push}
+use Rattle.pj_legal.proofs.texts.TextLaws.{replies_text-push}
 use Rattle.pj_legal.proofs.laws.texts_go_on.Goals as goal
 
 pub returns : goal.returns

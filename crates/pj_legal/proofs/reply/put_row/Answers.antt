@@ -1,7 +1,7 @@
 use Rattle.std.proofs.Common.{◌≡◌, [], ◌++◌, ◌∷◌, ◌-◌, length, get_or, suc, ◌∙◌, ap, arith}
 use Rattle.pj_value.specs.declared.value.Value.{Value}
 use Rattle.pj_legal.specs.Texts.{value_text}
-use Rattle.pj_legal.proofs.RowTexts.{length-row, row_text-ended}
+use Rattle.pj_legal.proofs.texts.RowTexts.{length-row, row_text-ended}
 use Rattle.pj_legal.proofs.reply.put_row.Goals as goal
 
 pub returns : goal.returns

@@ -1,5 +1,6 @@
 use Rattle.std.proofs.Common.{◌∙◌, sym}
-use Rattle.pj_server.proofs.StatusLemmas.{completes, tells_bad_line, statuses, sink_blamed, source_blamed, read_bad_line}
+use Rattle.pj_server.proofs.StatusLemmas.{completes, tells_bad_line, statuses, sink_blamed, source_blamed}
+use Rattle.pj_server.proofs.StatusLemmas.{read_bad_line}
 use Rattle.pj_server.proofs.playing.play.Goals as goal
 
 pub returns-clause-complete : goal.returns-clause-complete

@@ -31,7 +31,8 @@ IsPlain-bound place request (bounds.Select table query) course reply is form =
     subst IsPlain (same_Some _ _ (sym form.3 ∙ is)) tt
 
 -- no form's reply gives a name with a line feed
-IsPlain-form : (request : Request) (course : Course) (reply : Reply) → course.reply ≡ Some reply → Form request course
+IsPlain-form : (request : Request) (course : Course) (reply : Reply) → course.reply ≡ Some reply
+    → Form request course
     → IsPlain reply
 IsPlain-form request course reply is (inl refused) =
     subst IsPlain (same_Some _ _ (sym refused.reply ∙ is))
@@ -62,7 +63,8 @@ Takes-plain (Some line) request ms others (shown ∷ more) rest takes = (
   rest more takes.2,
 )
 
-Went-plain : (mine : List Move) (requests : List Request) (replies : List Shown) → Went Form mine requests replies
+Went-plain : (mine : List Move) (requests : List Request) (replies : List Shown)
+    → Went Form mine requests replies
     → AllByRecursion ShowsPlain replies
 Went-plain mine [] replies went = subst (AllByRecursion ShowsPlain) (sym went) tt
 Went-plain mine (request ∷ requests) replies went =
@@ -95,5 +97,6 @@ pub IsLegal-plain : (script : Script) (h : List Entry) (replies : List Shown) �
     → AllByRecursion (λ shown. IsPlain shown.reply) replies
 IsLegal-plain script h replies legal =
     All-sessions (λ session. ShowsPlain) (length script.names) replies legal.heard (λ session there.
-    Went-plain (moves_by (Session session) h) (requests_by session (statements script)) (shown_to session replies)
+    Went-plain (moves_by (Session session) h) (requests_by session (statements script))
+    (shown_to session replies)
     (legal.sessions session there).answered)

@@ -19,8 +19,8 @@ use Rattle.pj_legal.specs.declared.reply.Reply.TheVariants as replies
 use Rattle.pj_legal.specs.Texts.{value_text, row_text, announced, following, as_line, reply_text}
 use Rattle.pj_legal.specs.Laws.{IsPlain, SayTheSame}
 use Rattle.pj_legal.specs.FixedReplies.{IsCleanValue, AreCleanRows, IsClean, HaveOneShape}
-use Rattle.pj_legal.proofs.TextLaws.{IsFree, IsFree-append, IsFree-decimal, parts_are_same}
-use Rattle.pj_legal.proofs.TextLaws.{reply_text-same, announced-same}
+use Rattle.pj_legal.proofs.texts.TextLaws.{IsFree, IsFree-append, IsFree-decimal, parts_are_same}
+use Rattle.pj_legal.proofs.texts.TextLaws.{reply_text-same, announced-same}
 
 -- neither a tab nor a line feed
 abbrev IsInside : List ℕ → Type 0
@@ -40,7 +40,10 @@ IsInside-byte b = by (b == 92) (b == 9) (b == 10) (b == 13) (b == 0) refl refl
     by false false true t u no_tab no_feed = (omega arith, omega arith)
     by false false false true u no_tab no_feed = (omega arith, omega arith)
     by false false false false true no_tab no_feed = (omega arith, omega arith)
-    by false false false false false no_tab no_feed = ((eqb-false b 9 no_tab, tt), (eqb-false b 10 no_feed, tt))
+    by false false false false false no_tab no_feed = (
+      (eqb-false b 9 no_tab, tt),
+      (eqb-false b 10 no_feed, tt),
+    )
 
 -- nor in a text as it is written
 IsInside-escaped : (text : List ℕ) → IsInside (escaped text)

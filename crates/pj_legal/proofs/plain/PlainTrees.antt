@@ -15,8 +15,9 @@ use Rattle.pj_grammar.specs.grammar.Values.{applied, factor, product, arith, com
 use Rattle.pj_grammar.specs.grammar.Values.{negated, neg, conj, value_with, value_to}
 use Rattle.pj_bind.specs.Names.{Name, names_in, names_step}
 use Rattle.pj_legal.specs.Laws.{IsOneLine}
-use Rattle.pj_legal.proofs.ListLemmas.{All-append}
-use Rattle.pj_legal.proofs.PlainRules.{Gives, give, then, skip, either, several, maybe, enclosed, a_word}
+use Rattle.pj_legal.proofs.histories.ListLemmas.{All-append}
+use Rattle.pj_legal.proofs.plain.PlainRules.{Gives, give, then, skip, either, several, maybe, enclosed}
+use Rattle.pj_legal.proofs.plain.PlainRules.{a_word}
 
 -- no line feed in any of the names
 abbrev pub ArePlain : List Name → Type 0
@@ -37,7 +38,8 @@ plain-Num : (n : ℕ) → IsPlainTree (trees.Num n)
 plain-Num n = rolled (trees.rolls-Num n) (fold-roll-Tree (List Name) names_step (Tree-F.Num n)) tt
 
 plain-Text : (bytes : List ℕ) → IsPlainTree (trees.Text bytes)
-plain-Text bytes = rolled (trees.rolls-Text bytes) (fold-roll-Tree (List Name) names_step (Tree-F.Text bytes)) tt
+plain-Text bytes = rolled (trees.rolls-Text bytes) (fold-roll-Tree (List Name) names_step
+    (Tree-F.Text bytes)) tt
 
 plain-Name : (name : Name) → IsOneLine name → IsPlainTree (trees.Name name)
 plain-Name name is =
@@ -94,15 +96,18 @@ plain-negated (not ∷ nots) tree is = plain-Not (negated nots tree) (plain-nega
 
 -- a rule, and more of its kind behind signs or keywords
 level : (op : TreeOp) {rule : Grammar Tree} {between : Grammar (Unit {0})} → Gives IsPlainTree rule
-    → Gives IsPlainTree (rule >>= λ first. many (behind between rule) >>= λ more. Nothing (grouped op first more))
+    → Gives IsPlainTree (rule >>= λ first. many (behind between rule) >>= λ more. Nothing
+    (grouped op first more))
 level op gives =
-    then gives (λ first is. then (several (skip (λ _. gives))) (λ more all. give (plain-grouped op first more is all)))
+    then gives (λ first is. then (several (skip (λ _. gives))) (λ more all. give
+    (plain-grouped op first more is all)))
 
 module _ (value : Grammar Tree) (gives : Gives IsPlainTree value) where
   -- intDiv "(" value "," positive ")"
   gives-quotient : Gives IsPlainTree (quotient value)
   gives-quotient =
-      skip (λ _. skip (λ _. then gives (λ a is. skip (λ _. skip (λ d. skip (λ _. give (plain-IntDiv a d is)))))))
+      skip (λ _. skip (λ _. then gives (λ a is. skip (λ _. skip (λ d. skip (λ _. give
+      (plain-IntDiv a d is)))))))
 
   -- number | text | "(" value ")" | name
   gives-simple_atom : Gives IsPlainTree (simple_atom value)
@@ -120,7 +125,8 @@ module _ (value : Grammar Tree) (gives : Gives IsPlainTree value) where
   -- atom {"*" atom | "%" positive}
   gives-product : Gives IsPlainTree (product value)
   gives-product =
-      then gives-atom (λ first is. then (several gives-factor) (λ more all. give (plain-factors first more is all)))
+      then gives-atom (λ first is. then (several gives-factor) (λ more all. give
+      (plain-factors first more is all)))
 
   -- product {"+" product}
   gives-arith : Gives IsPlainTree (arith value)
@@ -130,7 +136,8 @@ module _ (value : Grammar Tree) (gives : Gives IsPlainTree value) where
   gives-test : Gives IsPlainTree (test value)
   gives-test =
       then gives-arith (λ left is. then
-      (maybe {P = λ (r : TreeOp × Tree). IsPlainTree r.1} (skip (λ op. then gives-arith (λ right other. give other))))
+      (maybe {P = λ (r : TreeOp × Tree). IsPlainTree r.1} (skip (λ op. then gives-arith
+      (λ right other. give other))))
       (λ right other. give (plain-compared left right is other)))
 
   -- {NOT} test

@@ -1,4 +1,5 @@
--- No line feed in the names that a refusal of a statement may give: they are words of the statement's lexemes.
+-- No line feed in the names that a refusal of a statement may give: they are words of the statement's
+-- lexemes.
 use Rattle.std.proofs.Common.{List, [], ◌∷◌, ◌++◌}
 use Rattle.std.specs.Prelude.{Option, Some, None, IfSome}
 use Rattle.std.specs.Option.{is_some}
@@ -25,10 +26,11 @@ use Rattle.pj_bind.specs.Queries.{listed, item_named, value_named, names_of_item
 use Rattle.pj_bind.specs.Queries.{names_of_group, names_of_key, column_names_of}
 use Rattle.pj_bind.specs.Binding.{new_names}
 use Rattle.pj_legal.specs.Laws.{IsOneLine}
-use Rattle.pj_legal.proofs.ListLemmas.{All-append, All-unless, All-flat_map, All-map}
-use Rattle.pj_legal.proofs.PlainRules.{IsPlainLexeme, Gives, give, then, skip, either, several, maybe, list}
-use Rattle.pj_legal.proofs.PlainRules.{enclosed, a_word}
-use Rattle.pj_legal.proofs.PlainTrees.{ArePlain, IsPlainTree, gives-value_to}
+use Rattle.pj_legal.proofs.histories.ListLemmas.{All-append, All-unless, All-flat_map, All-map}
+use Rattle.pj_legal.proofs.plain.PlainRules.{IsPlainLexeme, Gives, give, then, skip, either, several, maybe}
+use Rattle.pj_legal.proofs.plain.PlainRules.{list}
+use Rattle.pj_legal.proofs.plain.PlainRules.{enclosed, a_word}
+use Rattle.pj_legal.proofs.plain.PlainTrees.{ArePlain, IsPlainTree, gives-value_to}
 
 -- the names that a refusal of the statement may give
 abbrev pub names_of : Statement → List Name
@@ -59,7 +61,8 @@ abbrev IsPlainItem : TreeItem → Type 0
 IsPlainItem i = ArePlain (names_of_item i)
 
 plain-key : (items : List Listed) (i : TreeItem) → IsPlainItem i → ArePlain (names_of_key items i)
-plain-key items (tree_items.Value tree) is = All-unless IsOneLine (is_some (item_named items tree)) (names_in tree) is
+plain-key items (tree_items.Value tree) is = All-unless IsOneLine (is_some (item_named items tree))
+    (names_in tree) is
 plain-key items (tree_items.Call kind argument) is = is
 
 plain-filter : (filter : Option Tree) → IfSome filter IsPlainTree → ArePlain (names_of_filter filter)
@@ -137,7 +140,8 @@ abbrev IsPlainMember : Member → Type 0
 IsPlainMember (defined one) = IsOneLine one.name
 IsPlainMember (projected one) = Unit {0}
 
-plain-new_names : (more : List Member) → AllByRecursion IsPlainMember more → ArePlain (new_names (columns_in more))
+plain-new_names : (more : List Member) → AllByRecursion IsPlainMember more → ArePlain (new_names
+    (columns_in more))
 plain-new_names [] all = tt
 plain-new_names (defined one ∷ more) all = (all.0, plain-new_names more all.1)
 plain-new_names (projected one ∷ more) all = plain-new_names more all.1
@@ -151,7 +155,8 @@ gives-members : (value : Grammar Tree)
     → Gives (λ list. ArePlain (new_names (list.0 ∷ columns_in list.1))) (members value)
 gives-members value =
     skip (λ _. then gives-column (λ first is.
-    then (several {P = IsPlainMember} (skip (λ _. either (skip (λ projection. give tt)) (then gives-column (λ one it. give it)))))
+    then (several {P = IsPlainMember} (skip (λ _. either (skip (λ projection. give tt)) (then gives-column
+    (λ one it. give it)))))
     (λ more all. skip (λ _. give (is, plain-new_names more all)))))
 
 -- "(" name {"," name} ")" | name
@@ -166,7 +171,8 @@ gives-create value =
 
 -- ---- INSERT
 
-plain-listed_names : (columns : Option (List Name)) → IfSome columns ArePlain → ArePlain (listed_names columns)
+plain-listed_names : (columns : Option (List Name)) → IfSome columns ArePlain → ArePlain
+    (listed_names columns)
 plain-listed_names None all = tt
 plain-listed_names (Some names) all = all
 

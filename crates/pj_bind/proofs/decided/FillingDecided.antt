@@ -7,7 +7,8 @@ use Rattle.pj_value.specs.Values.{kind_of}
 use Rattle.pj_expr.specs.declared.table.ColumnDef.{ColumnDef}
 use Rattle.pj_bind.specs.Names.{Name}
 use Rattle.pj_bind.specs.Filling.{filled_row, column_kinds, FillsRow, FillColumns}
-use Rattle.pj_bind.proofs.Decided.{Decided, decided-both, decided-by, decided-nat, decided-list, decided-all}
+use Rattle.pj_bind.proofs.decided.Decided.{Decided, decided-both, decided-by, decided-nat, decided-list}
+use Rattle.pj_bind.proofs.decided.Decided.{decided-all}
 
 -- equal kinds
 pub decided-kind : (a b : Kind) → Decided (a ≡ b)

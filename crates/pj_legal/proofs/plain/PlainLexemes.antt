@@ -15,8 +15,8 @@ use Rattle.pj_grammar.specs.declared.types.Statement.{Statement}
 use Rattle.pj_grammar.specs.Lexemes.{lexeme_of, lexeme, lexemes}
 use Rattle.pj_legal.specs.Bodies.{BodyReads}
 use Rattle.pj_legal.specs.Laws.{IsOneLine}
-use Rattle.pj_legal.proofs.PlainRules.{IsPlainLexeme}
-use Rattle.pj_legal.proofs.PlainStatements.{IsPlainStatement, plain-sentence}
+use Rattle.pj_legal.proofs.plain.PlainRules.{IsPlainLexeme}
+use Rattle.pj_legal.proofs.plain.PlainStatements.{IsPlainStatement, plain-sentence}
 
 -- a line feed is no byte of a word
 IsOneLine-bytes : (bytes : List ℕ) → AllAre is_word_byte bytes → IsOneLine bytes
@@ -63,7 +63,8 @@ plain-lexemes body here bytes (token ∷ tokens) there rest left (more, first, o
     (plain, plain-lexemes body token.end more tokens there rest after others)
   where
     begins : drop token.at body ≡ first.text ++ more
-    begins = drop-prefix body here token.at first.stands.blanks (first.text ++ more) (left ∙ first.stands.whole) first.at
+    begins = drop-prefix body here token.at first.stands.blanks (first.text ++ more) (left
+        ∙ first.stands.whole) first.at
 
     is : slice_range body token.at token.end ≡ first.text
     is = slice-prefix body token.at token.end first.text more begins first.end

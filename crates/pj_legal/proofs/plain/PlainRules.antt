@@ -1,5 +1,5 @@
--- Rules of the grammar that read lexemes whose words have no line feed: what holds then of the values that they
--- read. A rule's lemma is put together as the rule is.
+-- Rules of the grammar that read lexemes whose words have no line feed: what holds then of the values that
+-- they read. A rule's lemma is put together as the rule is.
 use Rattle.std.proofs.Common.{◌≡◌, ℕ, true, List, [], ◌∷◌, sym, subst, inl, inr}
 use Rattle.std.specs.Prelude.{Bool, IfSome}
 use Rattle.std.specs.List.{AllByRecursion}
@@ -7,7 +7,7 @@ use Rattle.pj_grammar.specs.Lexemes.{Lexeme, word, number, text, symbol, bytes_o
 use Rattle.pj_grammar.specs.grammar.Ebnf.{Grammar, Nothing, ◌>>=◌, ◌or◌, many, optional}
 use Rattle.pj_grammar.specs.grammar.Words.{word_that, listed, in_parens}
 use Rattle.pj_legal.specs.Laws.{IsOneLine}
-use Rattle.pj_legal.proofs.ListLemmas.{All-front, All-back}
+use Rattle.pj_legal.proofs.histories.ListLemmas.{All-front, All-back}
 
 -- no line feed in a word
 abbrev pub IsPlainLexeme : Lexeme → Type 0
@@ -32,7 +32,8 @@ module _ {A B : Type 0} {P : A → Type 0} {Q : B → Type 0} {first : Grammar A
         let all = subst (AllByRecursion IsPlainLexeme) read.all plain in
         let holds =
         one.of read.front read.found (All-front IsPlainLexeme read.front read.back all) read.one in
-        (other read.found holds).of read.back value (All-back IsPlainLexeme read.front read.back all) read.other;
+        (other read.found holds).of read.back value (All-back IsPlainLexeme read.front read.back all)
+        read.other;
   }
 
 module _ {A B : Type 0} {Q : B → Type 0} {first : Grammar A} {second : A → Grammar B} where

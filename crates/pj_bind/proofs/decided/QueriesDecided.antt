@@ -18,9 +18,9 @@ use Rattle.pj_expr.specs.declared.query.Query.{Query}
 use Rattle.pj_expr.specs.Fits.{expr_kind, FitsExpr, FitsCond, FitsCallOf, FitsItem, IsBuiltOf, IsOfGroup}
 use Rattle.pj_expr.specs.Fits.{aggregates_rows, KeepsKinds, KeepsGroups}
 use Rattle.pj_expr.proofs.BuiltLemmas.{built-Column, built-Add, built-Mul, built-IntDiv, built-Mod}
-use Rattle.pj_bind.proofs.Decided.{Decided, decided-both, decided-by, decided-nat, decided-bytes}
-use Rattle.pj_bind.proofs.Decided.{decided-all, decided-true}
-use Rattle.pj_bind.proofs.FillingDecided.{decided-kind}
+use Rattle.pj_bind.proofs.decided.Decided.{Decided, decided-both, decided-by, decided-nat, decided-bytes}
+use Rattle.pj_bind.proofs.decided.Decided.{decided-all, decided-true}
+use Rattle.pj_bind.proofs.decided.FillingDecided.{decided-kind}
 
 -- ---- kinds
 
@@ -106,7 +106,8 @@ told (Expr-F.IntDiv a m) (Expr-F.IntDiv b n) =
     decided-by (λ e. (λ i. Expr-F.IntDiv (e.0 i) (e.1 i))) (λ e. (cc, cc))
     (decided-both (a.1 b) (decided-nat m n))
 told (Expr-F.Mod a m) (Expr-F.Mod b n) =
-    decided-by (λ e. (λ i. Expr-F.Mod (e.0 i) (e.1 i))) (λ e. (cc, cc)) (decided-both (a.1 b) (decided-nat m n))
+    decided-by (λ e. (λ i. Expr-F.Mod (e.0 i) (e.1 i))) (λ e. (cc, cc)) (decided-both (a.1 b)
+    (decided-nat m n))
 told y z = inr (λ e. cc)
 
 -- two expressions

@@ -1,0 +1,4 @@
+pub mod TextLaws
+pub mod TextSizes
+pub mod RowTexts
+pub mod ReadReplies
