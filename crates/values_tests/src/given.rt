@@ -1,4 +1,6 @@
 //! Rows that tests are given.
+ghost use Rattle.std.specs.Prelude.{◌≡◌};
+
 use pj_value::{Kind, Rows, Text, Value};
 use std::alloc::Global;
 use std::test::Fail;
@@ -9,7 +11,9 @@ pub(crate) fn push_row(
     rows: &mut Rows,
     number: u64,
     bytes: &[u8],
-) -> Result<(), Fail> {
+) -> Result<(), Fail>
+    ensures { rows.new.kinds ≡ rows.old.kinds }
+{
     let text = Text::new(alloc, bytes)?;
     rows.push(&[Value::Num(number), Value::Text(text)])?;
     Ok(())
