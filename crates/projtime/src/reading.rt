@@ -4,8 +4,9 @@ ghost use Rattle.pj_lex.specs.Tokens.{AreTokens};
 
 use crate::layer::{Layer, since};
 use pj_lex::{Token, tokens};
-use pj_parse::types::{Act, ScriptMode};
+use pj_parse::types::{Act, ScriptMode, Statement};
 use pj_parse::{read_insert, script, statement};
+use pj_value::NoMemory;
 use std::alloc::Global;
 use std::time::CpuClock;
 
@@ -59,12 +60,17 @@ fn insert<R: CpuClock>(
 ) -> anyhow::Result<bool> {
     let start = rt.thread_cpu_time()?;
     let read = read_insert(alloc, body, TEXT);
-    let took = since(rt, start)?;
-    let Some(_insert) = read? else {
-        layer.add(0, took);
+    let took = since(rt, start);
+    let was_read = is_there(read)?;
+    layer.add(u64::from(was_read), took?);
+    Ok(was_read)
+}
+
+/// Whether a statement was read, which is let go.
+fn is_there(read: Result<Option<Statement>, NoMemory>) -> Result<bool, NoMemory> {
+    let Some(_statement) = read? else {
         return Ok(false);
     };
-    layer.add(1, took);
     Ok(true)
 }
 

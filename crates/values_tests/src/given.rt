@@ -1,7 +1,7 @@
 //! Rows that tests are given.
 ghost use Rattle.std.specs.Prelude.{◌≡◌};
 
-use pj_value::{Kind, Rows, Text, Value};
+use pj_value::{Rows, Text, Value};
 use std::alloc::Global;
 use std::test::Fail;
 
@@ -17,13 +17,4 @@ pub(crate) fn push_row(
     let text = Text::new(alloc, bytes)?;
     rows.push(&[Value::Num(number), Value::Text(text)])?;
     Ok(())
-}
-
-/// Rows of a number and a text.
-pub(crate) fn rows_of(alloc: Global, given: &[(u64, &[u8])]) -> Result<Rows, Fail> {
-    let mut rows = Rows::new(alloc, &[Kind::Num, Kind::Text])?;
-    for (number, bytes) in given {
-        push_row(alloc, &mut rows, *number, bytes)?;
-    }
-    Ok(rows)
 }
