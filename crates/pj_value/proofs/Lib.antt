@@ -1,7 +1,17 @@
 pub mod ColumnLemmas
+pub mod FitsLemmas
 pub mod EscapingLemmas
 pub mod SpellingLemmas
 pub mod LayoutLemmas
 pub mod OrderLemmas
 pub mod GatherLemmas
 pub mod RowsLemmas
+pub mod NumberBytesLemmas
+pub mod ValueLemmas
+pub mod MemberLemmas
+pub mod ExtremeLemmas
+pub mod RisingLemmas
+pub mod InOrderLemmas
+pub mod OneSummaryLemmas
+pub mod SummaryLemmas
+pub mod SummaryBytesLemmas

@@ -1,6 +1,6 @@
 -- How a `Column` and `Rows` are laid out. No public contract cites this file.
 use Rattle.std.specs.Prelude.{◌≡◌, ℕ, Bool, List, [], ◌∷◌, ◌++◌, length, map, take}
-use Rattle.std.specs.List.{AllZip, range_with_len}
+use Rattle.std.specs.List.{All, AllZip, range_with_len}
 use Rattle.std.specs.Ordering.{is_lt}
 use Rattle.std.specs.declared.cmp.Ordering.{Ordering}
 use Rattle.pj_value.specs.declared.value.Kind.{Kind}
@@ -9,6 +9,7 @@ use Rattle.pj_value.specs.declared.value.Value.{Value}
 use Rattle.pj_value.specs.declared.value.Value.TheVariants as values
 use Rattle.pj_value.specs.declared.column.Items.{Items}
 use Rattle.pj_value.specs.declared.column.Items.TheVariants as items
+use Rattle.pj_value.specs.NumberBytes.{AreBytes}
 use Rattle.pj_value.specs.Columns.{KindedValues, AreOfKind, values_at, values_of, row_at}
 use Rattle.pj_value.specs.Order.{key_cmp}
 
@@ -18,6 +19,11 @@ kinded_values (items.Num numbers) =
     record { kind = kinds.Num; values = map (λ n. values.Num n) numbers.items }
 kinded_values (items.Text texts) =
     record { kind = kinds.Text; values = map (λ t. values.Text t) texts.items }
+
+-- the texts among what a column holds are of bytes
+abbrev pub HasBytes : Items → Type 0
+HasBytes (items.Num numbers) = Unit {0}
+HasBytes (items.Text texts) = All AreBytes texts.items
 
 -- a column of this kind, with as many values as there are rows
 pub record IsColumnOf (len : ℕ) (kind : Kind) (column : KindedValues) : Type 0 where

@@ -2,7 +2,10 @@ pub mod Values
 pub mod TextLayout
 pub mod Columns
 pub mod Rows
+pub mod Summaries
+pub mod SummaryLaws
 pub mod Order
+pub mod NumberBytes
 pub mod Escaping
 pub mod EscapingLaws
 pub mod Layout

@@ -1,9 +1,10 @@
 //! A column: values of one kind. Numbers and texts lie in vectors of their own,
 //! so that a number takes eight bytes.
-ghost use Rattle.std.specs.Prelude.{◌≡◌, ◌<◌, ◌++◌, ◌∷◌, [], ◌↔◌, length, map, take, slice_index_or};
+ghost use Rattle.std.specs.Prelude.{◌≡◌, ◌≢◌, ◌<◌, ◌++◌, ◌∷◌, [], ◌↔◌, length, map, take, slice_index_or};
 ghost use Rattle.std.specs.Prelude.{IfOk, MatchOption, OnOk, OnErr};
-ghost use Rattle.pj_value.specs.Values.{kind_of, value_of};
-ghost use Rattle.std.specs.List.{All};
+ghost use Rattle.std.specs.List.{All, AllByRecursion};
+ghost use Rattle.pj_value.specs.NumberBytes.{AreBytes};
+ghost use Rattle.pj_value.specs.Values.{kind_of, value_of, Fits};
 ghost use Rattle.pj_value.specs.Columns.{no_values, column_of_numbers, column_of_texts, values_at, AreOfKind};
 ghost use Rattle.pj_value.specs.declared.value.Value.TheVariants as values;
 
@@ -27,15 +28,15 @@ pub struct Column {
 }
 
 impl Model for Column {
-    ghost use Rattle.pj_value.specs.Columns.{KindedValues, AreOfKind};
+    ghost use Rattle.pj_value.specs.Columns.{KindedValues};
 
     ghost Value = { KindedValues };
 
-    ghost use Rattle.pj_value.specs.Layout.{kinded_values};
+    ghost use Rattle.pj_value.specs.Layout.{kinded_values, HasBytes};
 
     ghost view = { λ c. kinded_values c.items };
 
-    ghost invariant = { λ c. AreOfKind (kinded_values c.items).kind (kinded_values c.items).values };
+    ghost invariant = { λ c. HasBytes c.items };
 }
 
 impl Column {
@@ -50,13 +51,17 @@ impl Column {
         Column { items }
     }
 
-    /// The kind of the values.
+    /// The kind of the values. A caller learns here that each is of this kind, and fits.
     pub fn kind(&self) -> Kind
         ensures kind { result ≡ self.now.kind }
         ensures of_kind { AreOfKind self.now.kind self.now.values }
+        ensures fits { AllByRecursion Fits self.now.values }
     {
         match &self.items {
-            Items::Num(_) => Kind::Num,
+            Items::Num(numbers) => {
+                numbers_fit(numbers.as_slice());
+                Kind::Num
+            }
             Items::Text(_) => Kind::Text,
         }
     }
@@ -79,7 +84,7 @@ impl Column {
     {
         match (&mut self.items, value) {
             (Items::Num(numbers), Value::Num(number)) => Ok(numbers.push(number)?),
-            (Items::Text(texts), Value::Text(text)) => Ok(texts.push(text)?),
+            (Items::Text(texts), Value::Text(text)) => push_text(texts, text),
             _ => Err(PushFault::WrongShape),
         }
     }
@@ -96,7 +101,7 @@ impl Column {
     }
 
     /// The value at this index, lent, and the number 0 where there is none.
-    pub(crate) fn cell_or_zero(&self, at: usize) -> Cell<'_>
+    pub fn cell_or_zero(&self, at: usize) -> Cell<'_>
         ensures { value_of result ≡ slice_index_or self.now.values at (values.Num 0) }
     {
         match &self.items {
@@ -139,7 +144,7 @@ impl Column {
     }
 
     /// Adds the values of another column of this kind behind the others, in time linear in these alone.
-    pub(crate) fn append(&mut self, more: &Column, alloc: Global) -> Result<(), NoMemory>
+    pub fn append(&mut self, more: &Column, alloc: Global) -> Result<(), NoMemory>
         requires { more.now.kind ≡ self.old.kind }
         ensures added { OnOk result
             (self.new ≡ record self.old { values = self.old.values ++ more.now.values }) }
@@ -177,6 +182,7 @@ impl Column {
     pub fn from_texts(texts: Vec<Text>) -> Column
         ensures { result ≡ column_of_texts texts.items }
     {
+        texts_fit(texts.as_slice());
         Column {
             items: Items::Text(texts),
         }
@@ -201,6 +207,32 @@ impl Column {
             Items::Text(texts) => Some(texts.as_slice()),
         }
     }
+}
+
+/// Does nothing. A caller learns that the numbers are of 64 bits, which the prover knows of a
+/// slice that is passed.
+fn numbers_fit(numbers: &[u64])
+    ensures { All (λ n. n < 18446744073709551616) numbers.now }
+{}
+
+/// Has no effect. A caller learns that the texts are of bytes.
+fn texts_fit(texts: &[Text])
+    ensures { All AreBytes texts.now }
+{
+    for text in texts {
+        let _bytes = text.as_slice();
+    }
+}
+
+/// Adds a text, which is of bytes, behind the others.
+fn push_text(texts: &mut Vec<Text>, text: Text) -> Result<(), PushFault>
+    ensures added { OnOk result (texts.new.items ≡ texts.old.items ++ text ∷ []) }
+    ensures bytes { OnOk result (AreBytes text) }
+    ensures shape { result ≢ Err PushFault.WrongShape }
+    ensures same { OnErr result (texts.new.items ≡ texts.old.items) }
+{
+    let _bytes = text.as_slice();
+    Ok(texts.push(text)?)
 }
 
 /// Adds copies of the texts behind the others, all or none.

@@ -1,7 +1,7 @@
 //! What is done to all columns of some rows at once.
 ghost use Rattle.std.specs.Prelude.{◌≡◌, ◌≢◌, ◌<◌, ℕ, ◌↔◌, IfOk, IsTrue, OnOk, OnErr, length, map, take};
-ghost use Rattle.std.specs.List.{All};
-ghost use Rattle.pj_value.specs.Values.{kind_of};
+ghost use Rattle.std.specs.List.{All, AllByRecursion};
+ghost use Rattle.pj_value.specs.Values.{kind_of, Fits};
 ghost use Rattle.pj_value.specs.Columns.{no_values, AreOfKind, kinds_of, values_of};
 ghost use Rattle.pj_value.specs.Layout.{gathered, joined, truncated, columns_of_row};
 
@@ -58,6 +58,15 @@ pub(crate) fn column_kinds(alloc: Global, columns: &[Column]) -> Result<Vec<Kind
         kinds.push(column.kind())?;
     }
     Ok(kinds)
+}
+
+/// Has no effect. A caller learns that the values of each column fit.
+pub(crate) fn columns_fit(columns: &[Column])
+    ensures { All (λ c. AllByRecursion Fits c.values) columns.now }
+{
+    for column in columns {
+        let _kind = column.kind();
+    }
 }
 
 /// Whether the row has one value of each kind.

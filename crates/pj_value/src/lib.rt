@@ -4,6 +4,7 @@
 mod column;
 mod columns;
 mod escaping;
+mod laws;
 mod list;
 mod memory;
 mod rows;
@@ -13,6 +14,11 @@ mod value;
 
 pub use column::Column;
 pub use escaping::{escape, text_or_bad_escape, unescape, unescape_undoes_escape};
+pub use laws::{
+    bytes_are_of_their_number, bytes_tell_summaries_apart, numbers_are_of_their_bytes,
+    standing_is_a_summary, summaries_finish, summaries_ignore_the_order, summaries_join,
+    values_have_one_summary,
+};
 pub use list::List;
 pub use memory::{NoMemory, PushFault, UnescapeFault};
 pub use rows::Rows;

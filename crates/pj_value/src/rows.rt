@@ -2,16 +2,16 @@
 //! and what needs one column alone reads no other.
 ghost use Rattle.std.specs.Prelude.{◌≡◌, ◌<◌, ◌++◌, ◌∷◌, [], ◌↔◌, length, map, take};
 ghost use Rattle.std.specs.Prelude.{IfOk, OnOk, OnErr, IsTrue};
-ghost use Rattle.std.specs.List.{All};
-ghost use Rattle.pj_value.specs.Values.{kind_of, value_of};
+ghost use Rattle.std.specs.List.{All, AllByRecursion};
+ghost use Rattle.pj_value.specs.Values.{kind_of, value_of, Fits};
 ghost use Rattle.pj_value.specs.Rows.{no_rows, rows_of_no_columns, value_at, rows_at, column_of, rows_in};
 ghost use Rattle.pj_value.specs.Rows.{rows_joined, HaveKinds};
 ghost use Rattle.pj_value.specs.Order.{IsSortedBy};
 
 use crate::column::Column;
 use crate::columns::{
-    append_columns, column_kinds, duplicate_columns, empty_columns, fits, gather_columns, push_row,
-    truncate_columns,
+    append_columns, column_kinds, columns_fit, duplicate_columns, empty_columns, fits,
+    gather_columns, push_row, truncate_columns,
 };
 use crate::memory::{NoMemory, PushFault};
 use crate::sorting::sorted_indexes;
@@ -100,11 +100,14 @@ impl Rows {
         self.len == 0
     }
 
-    /// The kinds of the columns, lent. A caller learns here that each row has one value of each kind.
+    /// The kinds of the columns, lent. A caller learns here that each row has one value of each
+    /// kind, and that each value fits.
     pub fn kinds(&self) -> &[Kind]
         ensures kinds { result.now ≡ self.now.kinds }
         ensures shape { HaveKinds self.now.kinds self.now.rows }
+        ensures fits { AllByRecursion (λ row. AllByRecursion Fits row) self.now.rows }
     {
+        columns_fit(self.columns.as_slice());
         self.kinds.as_slice()
     }
 

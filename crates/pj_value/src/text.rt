@@ -1,5 +1,6 @@
 //! A text: a list of bytes, in no encoding.
 ghost use Rattle.std.specs.Prelude.{◌≡◌, ◌≤◌, length, IfOk};
+ghost use Rattle.pj_value.specs.NumberBytes.{AreBytes};
 ghost use Rattle.pj_value.specs.TextLayout.{bytes_in, IsWithin};
 
 use crate::memory::NoMemory;
@@ -81,16 +82,25 @@ impl Text {
         }
     }
 
-    /// The bytes, lent. Takes no memory.
+    /// The bytes, lent. Takes no memory. A caller learns here that each of them is below 256.
     pub fn as_slice(&self) -> &[u8]
-        ensures { result.now ≡ self.now }
+        ensures value { result.now ≡ self.now }
+        ensures bytes { AreBytes self.now }
     {
-        match &self.bytes {
+        let bytes = match &self.bytes {
             Bytes::Few { len, bytes } => &bytes[..*len as usize],
             Bytes::Many(bytes) => bytes.as_slice(),
-        }
+        };
+        bytes_fit(bytes);
+        bytes
     }
 }
+
+/// Does nothing. A caller learns that each byte is below 256, which the prover knows of a slice
+/// that is passed.
+fn bytes_fit(bytes: &[u8])
+    ensures { AreBytes bytes.now }
+{}
 
 /// A few bytes, copied.
 fn few(bytes: &[u8]) -> Bytes

@@ -8,7 +8,7 @@ use Rattle.pj_bind.proofs.TableLemmas.{Decides-names, IsUnknown-more}
 pub returns-then-eq : goal.returns-then-eq
 returns-then-eq c =
     let same : Decides c.eq.result (c.index-tables-number.result.name ≡ c.args.name.now) =
-    rw (← c.as_slice.ensures, ← c.as_slice-in-tables.ensures)
+    rw (← c.as_slice.ensures.value, ← c.as_slice-in-tables.ensures.value)
     (Decides-names c.eq.result _ _ c.eq.ensures) in (
       c.index-tables-number.result,
       (
@@ -23,7 +23,7 @@ returns-then-eq c =
 pub tables-preserved : goal.tables-preserved
 tables-preserved c =
     let same : Decides c.eq.result (c.index-tables-number.result.name ≡ c.args.name.now) =
-    rw (← c.as_slice.ensures, ← c.as_slice-in-tables.ensures)
+    rw (← c.as_slice.ensures.value, ← c.as_slice-in-tables.ensures.value)
     (Decides-names c.eq.result _ _ c.eq.ensures) in
     IsUnknown-more c.args.tables.now c.args.name.now c.tables.number c.index-tables-number.result
     (omega arith) c.index-tables-number.is

@@ -14,7 +14,7 @@ returns-then-not-branch c =
           slice_get_read c.args.names.now (length c.args.names.now) c.names.name-index c.name-item.result refl
           (omega arith) c.name-item.is;
       repeats =
-          subst (λ (q : Name). Contains before q) c.as_slice.ensures
+          subst (λ (q : Name). Contains before q) c.as_slice.ensures.value
           (has-Contains before c.as_slice.result.now
           (sym (c.names.invariant.seen c.as_slice.result.now)
           ∙ not_false _ _ c.in_ok-insert.ensures.added c.if-not-branch.true));
@@ -28,7 +28,7 @@ names-preserved c =
     let i : ℕ = c.names.name-index in
     let name : Name = c.as_slice.result.now in
     let within : i < length names = omega arith in
-    let read : name ≡ get_or names i c.name-item.result = c.as_slice.ensures ∙ c.name-item.is in
+    let read : name ≡ get_or names i c.name-item.result = c.as_slice.ensures.value ∙ c.name-item.is in
     record {
       once =
           NoneRepeats-more names i c.name-item.result within c.names.invariant.once

@@ -15,5 +15,5 @@ returns-in-Some c =
     (prefix_then
     (prefix_one most (is_text (λ bytes. true)) bytes_of (kinds.Text c.in-Some.text) c.args.bytes.now
     first.0 c.in-Some.behind.now first.1
-    (rw (← c.as_slice.ensures) c.if-as_slice-most.true) refl)
+    (rw (← c.as_slice.ensures.value) c.if-as_slice-most.true) refl)
     (prefix_nothing most (values.Text c.in-Some.text) c.in-Some.behind.now))

@@ -10,7 +10,7 @@ returns-in-Ok-clause-run g c =
     let name = sym (get_or_read c.args.names.now _ _ c.requires c.index-names-line.is []) in
     runs_line c.write_text.result _ _ c.args.names.now c.args.line.now c.body_of.result.now
     c.index-names-line.result c.as_slice.result.now c.statement-reply.result _ _ c.body_of.ensures
-    c.statement-reply.ensures (c.as_slice.ensures ∙ c.in-Ok.ensures) name c.write_text.ensures.written
+    c.statement-reply.ensures (c.as_slice.ensures.value ∙ c.in-Ok.ensures) name c.write_text.ensures.written
 
 pub returns-clause-run : goal.returns-clause-run
 returns-clause-run g c =

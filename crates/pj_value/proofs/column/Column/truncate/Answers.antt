@@ -1,10 +1,6 @@
 use Rattle.std.proofs.lemmas.List.{take-map}
-use Rattle.pj_value.proofs.ColumnLemmas.{AreOfKind-kinded}
 use Rattle.pj_value.proofs.column.Column.truncate.Goals as goal
 use Rattle.pj_value.proofs.column.Column.truncate.Goals.{in-Num, in-Text}
-
-pub invariant_of-self : goal.invariant_of-self
-invariant_of-self c = AreOfKind-kinded _
 
 pub returns : goal.returns
 returns c = elim c.match-self.branch [

@@ -1,0 +1,8 @@
+use Rattle.std.proofs.Common.{◌<◌}
+use Rattle.std.proofs.lemmas.List.Elements.{All-from_get_or, recursion_from_All}
+use Rattle.pj_value.proofs.text.bytes_fit.Goals as goal
+
+pub returns : goal.returns
+returns c =
+    recursion_from_All (λ b. b < 256) c.args.bytes.now
+    (All-from_get_or (λ b. b < 256) c.args.bytes.now 0 (λ at l. (c.type_inv.bytes at).fits))
