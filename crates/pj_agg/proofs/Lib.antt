@@ -1,0 +1,7 @@
+pub mod ByteLemmas
+pub mod ChoiceLemmas
+pub mod GroupLemmas
+pub mod InOrderLemmas
+mod ListLemmas
+pub mod PileLemmas
+pub mod ReadLemmas

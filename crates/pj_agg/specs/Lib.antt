@@ -1,0 +1,6 @@
+pub mod InOrder
+pub mod States
+pub mod Groups
+pub mod StateColumns
+pub mod Layout
+pub mod AggStates
