@@ -1,11 +1,9 @@
-//! Tests of what no clause says of values, rows, states, sources and sinks: that calls succeed where memory is
-//! ample, and worked examples.
+//! Tests of what no clause says of values, rows, sources and sinks: that calls succeed where memory is ample,
+//! and worked examples.
 #![tactic(auto)]
 
 #[cfg(test)]
 mod given;
-#[cfg(test)]
-mod states;
 #[cfg(test)]
 mod transfers;
 #[cfg(test)]
