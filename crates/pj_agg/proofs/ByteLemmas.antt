@@ -1,6 +1,7 @@
 -- The bytes of numbers, of values and of states.
 use Rattle.std.proofs.Common.{◌≡◌, ℕ, zero, suc, ◌+◌, ◌-◌, ◌<◌, ◌≤◌, List, [], ◌∷◌, ◌++◌, length, get_or, take, drop}
-use Rattle.std.proofs.Common.{Fits, w8, w64, refl, sym, ap, ◌∙◌, subst, arith, length-append, length-drop}
+use Rattle.std.proofs.Common.{Fits, w8, w64, refl, sym, ap, ◌∙◌, arith, length-append, length-drop}
+use Rattle.std.proofs.Math.Seq.{take-append_seam}
 use Rattle.std.specs.Int.{from_le_bytes}
 use Rattle.std.specs.List.{AllByRecursion}
 use Rattle.std.proofs.lemmas.List.{take-append-drop, take-take, drop-take, length-take-le}
@@ -15,6 +16,13 @@ pub bytes-by_place : (bytes : List ℕ) → ((i : ℕ) → Fits w8 (get_or bytes
 bytes-by_place [] h = tt
 bytes-by_place (b ∷ bytes) h =
     let first : Fits w8 b = h zero in (omega arith, bytes-by_place bytes (λ i. h (suc i)))
+
+-- bytes to which some were added are still there where these and more are
+pub take-kept : (old more mid new : List ℕ) → mid ≡ old ++ more → take (length mid) new ≡ mid
+    → take (length old) new ≡ old
+take-kept old more mid new e kept =
+    sym (take-take (length old) (length mid) new (omega (arith, ap length e, length-append old more)))
+    ∙ ap (take (length old)) (kept ∙ e) ∙ take-append_seam old more
 
 -- ---- numbers
 

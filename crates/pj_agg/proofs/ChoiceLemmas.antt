@@ -15,7 +15,7 @@ use Rattle.pj_value.specs.Aggregates.{lesser, greater}
 use Rattle.pj_value.specs.Order.{value_cmp}
 use Rattle.pj_value.specs.Summaries.{Extreme, extreme_of, IsOfKind, IsSummary}
 use Rattle.pj_value.proofs.OrderLemmas.{value_total}
-use Rattle.pj_agg.specs.States.{with_value, with_either}
+use Rattle.pj_agg.specs.States.{with_either}
 
 -- ---- a choice of two, by an order
 

@@ -5,3 +5,4 @@ pub mod InOrderLemmas
 mod ListLemmas
 pub mod PileLemmas
 pub mod ReadLemmas
+mod StateLawLemmas

@@ -4,3 +4,4 @@ pub mod Groups
 pub mod StateColumns
 pub mod Layout
 pub mod AggStates
+pub mod StateLaws

@@ -1,8 +1,7 @@
 -- The states of one call, one for each group.
-use Rattle.std.specs.Prelude.{◌≡◌, List, [], map}
+use Rattle.std.specs.Prelude.{◌≡◌, List, map}
 use Rattle.pj_value.specs.declared.value.Kind.{Kind}
 use Rattle.pj_value.specs.declared.value.Kind.TheVariants as kinds
-use Rattle.pj_value.specs.declared.value.Value.{Value}
 use Rattle.pj_value.specs.declared.value.AggKind.{AggKind}
 use Rattle.pj_value.specs.declared.value.AggKind.TheVariants as aggregates
 use Rattle.pj_value.specs.Aggregates.{aggregate_kind}
@@ -22,6 +21,14 @@ Takes aggregates.Sum kind = kind ≡ kinds.Num
 Takes aggregates.Min kind = Unit {0}
 Takes aggregates.Max kind = Unit {0}
 Takes aggregates.UniqExact kind = Unit {0}
+
+-- states of values of this kind are joined without memory: counts, totals, and least or greatest numbers
+abbrev pub JoinsInPlace : AggKind → Kind → Type 0
+JoinsInPlace aggregates.Count kind = Unit {0}
+JoinsInPlace aggregates.Sum kind = Unit {0}
+JoinsInPlace aggregates.Min kind = kind ≡ kinds.Num
+JoinsInPlace aggregates.Max kind = kind ≡ kinds.Num
+JoinsInPlace aggregates.UniqExact kind = ⊥
 
 -- the aggregate of each group
 abbrev pub finished_column : KindedSummaries → KindedValues

@@ -1,18 +1,17 @@
--- How the states of aggregates are laid out. No public contract cites this file.
-use Rattle.std.specs.Prelude.{◌≡◌, ℕ, ◌<◌, Option, Some, None, List, map}
+-- Which values the states of aggregates keep, as they are laid out. What a state keeps is said in these words
+-- (AggStates.antt), and so public contracts cite this file.
+use Rattle.std.specs.Prelude.{Option, Some, None, List, map}
 use Rattle.pj_value.specs.declared.value.Kind.{Kind}
 use Rattle.pj_value.specs.declared.value.Kind.TheVariants as kinds
 use Rattle.pj_value.specs.declared.value.Value.{Value}
 use Rattle.pj_value.specs.declared.value.Value.TheVariants as values
 use Rattle.pj_value.specs.Aggregates.{lesser, greater}
-use Rattle.pj_value.specs.Summaries.{Summary, Number, Extreme, Distinct}
 use Rattle.pj_agg.specs.declared.kept.Kept.{Kept}
 use Rattle.pj_agg.specs.declared.kept.Kept.TheVariants as kept
 use Rattle.pj_agg.specs.declared.kept.End.{End}
 use Rattle.pj_agg.specs.declared.kept.End.TheVariants as ends
 use Rattle.pj_agg.specs.declared.piles.Piles.{Piles}
 use Rattle.pj_agg.specs.declared.piles.Piles.TheVariants as piles
-use Rattle.pj_agg.specs.InOrder.{in_order}
 
 -- ---- the least and the greatest value
 

@@ -7,7 +7,7 @@ ghost use Rattle.pj_value.specs.declared.value.Value.{Value};
 ghost use Rattle.pj_value.specs.Values.{kind_of, value_of};
 ghost use Rattle.pj_value.specs.Aggregates.{aggregate_kind};
 ghost use Rattle.pj_value.specs.Summaries.{Summary, Stands, IsSummary, finished, state_bytes};
-ghost use Rattle.pj_agg.specs.StateColumns.{Takes};
+ghost use Rattle.pj_agg.specs.StateColumns.{Takes, JoinsInPlace};
 ghost use Rattle.pj_agg.specs.AggStates.{agg_of, summary_of, IsOf};
 
 use crate::count_state::CountState;
@@ -105,6 +105,8 @@ impl AggState {
             → Stands (agg_of self.old) (summary_of self.new) (vs ++ ws)) }
         ensures kind { (kind : Kind) → IsOf kind self.old → IsOf kind self.new }
         ensures same { OnErr result (summary_of self.new ≡ summary_of self.old) }
+        ensures memory { (kind : Kind) → IsOf kind self.old → JoinsInPlace (agg_of self.old) kind
+            → IsOk result }
     {
         match (self, other) {
             (AggState::Count(state), AggState::Count(more)) => state.join(alloc, more),
@@ -132,12 +134,13 @@ impl AggState {
         }
     }
 
-    /// Writes its bytes behind others. A call that fails may have written a part of them.
+    /// Writes its bytes behind others, or nothing.
     pub fn encode(&self, out: &mut Vec<u8>) -> Result<(), NoMemory>
         ensures bytes { OnOk result
             (out.new.items ≡ out.old.items ++ state_bytes (summary_of self.now)) }
         ensures whole { OnOk result ((kind : Kind) → IsOf kind self.now
             → IsSummary (agg_of self.now) kind (summary_of self.now)) }
+        ensures same { OnErr result (out.new.items ≡ out.old.items) }
     {
         match self {
             AggState::Count(state) => state.encode(out),

@@ -1,5 +1,5 @@
 //! Numbers and values as bytes.
-ghost use Rattle.std.specs.Prelude.{◌≡◌, ℕ, ◌<◌, ◌≤◌, ◌++◌, take, length, MatchOption, OnOk};
+ghost use Rattle.std.specs.Prelude.{◌≡◌, ℕ, ◌<◌, ◌≤◌, ◌++◌, take, length, MatchOption, OnOk, OnErr};
 ghost use Rattle.pj_value.specs.Values.{value_of, Fits};
 ghost use Rattle.pj_value.specs.Summaries.{number_bytes, value_bytes};
 
@@ -18,16 +18,18 @@ pub(crate) fn number_at_front(bytes: &[u8]) -> Option<u64>
 
 /// Writes the bytes of a number behind others.
 pub(crate) fn write_number(out: &mut Vec<u8>, number: u64) -> Result<(), NoMemory>
-    ensures { OnOk result (out.new.items ≡ out.old.items ++ number_bytes number) }
+    ensures bytes { OnOk result (out.new.items ≡ out.old.items ++ number_bytes number) }
+    ensures same { OnErr result (out.new.items ≡ out.old.items) }
 {
     out.extend_from_slice(&number.to_le_bytes())?;
     Ok(())
 }
 
-/// Writes the bytes of a value behind others.
+/// Writes the bytes of a value behind others. A call that fails may have written a part of them.
 pub(crate) fn write_value(out: &mut Vec<u8>, cell: Cell<'_>) -> Result<(), NoMemory>
     ensures bytes { OnOk result (out.new.items ≡ out.old.items ++ value_bytes (value_of cell.entry)) }
     ensures fits { OnOk result (Fits (value_of cell.entry)) }
+    ensures kept { take (length out.old.items) out.new.items ≡ out.old.items }
 {
     match cell {
         Cell::Num(number) => write_number(out, number),

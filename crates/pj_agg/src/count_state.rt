@@ -32,8 +32,6 @@ impl State for CountState {
 
     ghost is_of = { λ _ _. Unit {0} };
 
-    ghost joins_in_place = { λ _. Unit {0} };
-
     fn unit(_alloc: Global, _kind: Kind) -> Self {
         CountState { count: 0 }
     }

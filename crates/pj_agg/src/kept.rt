@@ -1,5 +1,6 @@
 //! The least or the greatest of values of a kind, where there is one.
-ghost use Rattle.std.specs.Prelude.{◌≡◌, ◌++◌, ◌∷◌, [], IfOk, IfSome, IsOk, OnOk, OnErr, Option, if◌then◌else◌};
+ghost use Rattle.std.specs.Prelude.{◌≡◌, ◌++◌, ◌∷◌, [], length, take, IfOk, IfSome, IsOk, OnOk, OnErr};
+ghost use Rattle.std.specs.Prelude.{Option, if◌then◌else◌};
 ghost use Rattle.pj_value.specs.declared.value.Kind.{Kind};
 ghost use Rattle.pj_value.specs.declared.value.Kind.TheVariants as kinds;
 ghost use Rattle.pj_value.specs.declared.value.Value.{Value};
@@ -98,10 +99,11 @@ impl Kept {
         }
     }
 
-    /// Writes its bytes behind others.
+    /// Writes its bytes behind others, or nothing.
     pub(crate) fn encode(&self, out: &mut Vec<u8>) -> Result<(), NoMemory>
         ensures bytes { OnOk result (out.new.items ≡ out.old.items ++ extreme_bytes (kept_value self.now)) }
         ensures whole { OnOk result (IfSome (kept_value self.now) (IsOfKind (kept_kind self.now))) }
+        ensures same { OnErr result (out.new.items ≡ out.old.items) }
     {
         match self {
             Kept::Num(Some(number)) => write_some(out, &number.to_le_bytes()),
@@ -199,15 +201,30 @@ fn is_text_kept(held: &Option<Text>, text: &Text, end: End) -> bool
 
 /// Writes that there is no value.
 fn write_none(out: &mut Vec<u8>) -> Result<(), NoMemory>
-    ensures { OnOk result (out.new.items ≡ out.old.items ++ 0 ∷ []) }
+    ensures bytes { OnOk result (out.new.items ≡ out.old.items ++ 0 ∷ []) }
+    ensures same { OnErr result (out.new.items ≡ out.old.items) }
 {
     out.push(0)?;
     Ok(())
 }
 
-/// Writes that there is a value, and its bytes.
+/// Writes that there is a value, and its bytes, or nothing.
 fn write_some(out: &mut Vec<u8>, bytes: &[u8]) -> Result<(), NoMemory>
-    ensures { OnOk result (out.new.items ≡ out.old.items ++ 1 ∷ bytes.now) }
+    ensures bytes { OnOk result (out.new.items ≡ out.old.items ++ 1 ∷ bytes.now) }
+    ensures same { OnErr result (out.new.items ≡ out.old.items) }
+{
+    let len = out.len();
+    let written = write_one_and_bytes(out, bytes);
+    if written.is_err() {
+        out.truncate(len);
+    }
+    written
+}
+
+/// Writes that there is a value, and its bytes. A call that fails may have written a part of it.
+fn write_one_and_bytes(out: &mut Vec<u8>, bytes: &[u8]) -> Result<(), NoMemory>
+    ensures bytes { OnOk result (out.new.items ≡ out.old.items ++ 1 ∷ bytes.now) }
+    ensures kept { take (length out.old.items) out.new.items ≡ out.old.items }
 {
     out.push(1)?;
     out.extend_from_slice(bytes)?;

@@ -7,6 +7,7 @@ mod count_state;
 mod groups;
 mod item;
 mod kept;
+mod laws;
 mod max_state;
 mod min_state;
 mod pile;
@@ -19,6 +20,10 @@ mod uniq_state;
 
 pub use agg_state::{AggState, Keyed};
 pub use count_state::CountState;
+pub use laws::{
+    bytes_tell_their_summary, greatest_is_greatest, joins_ignore_the_order, least_is_least,
+    summaries_stand_for_values,
+};
 pub use max_state::MaxState;
 pub use min_state::MinState;
 pub use state::{State, StateFault};

@@ -1,7 +1,6 @@
 //! The state of `min`: the least value, where there is one.
 ghost use Rattle.std.specs.Prelude.{◌≡◌};
 ghost use Rattle.pj_value.specs.declared.value.AggKind.TheVariants as aggregates;
-ghost use Rattle.pj_value.specs.declared.value.Kind.TheVariants as kinds;
 ghost use Rattle.pj_value.specs.Summaries.{Extreme};
 ghost use Rattle.pj_agg.specs.States.{kept_kind, kept_value};
 
@@ -24,8 +23,6 @@ impl State for MinState {
     ghost takes = { λ _. Unit {0} };
 
     ghost is_of = { λ kind s. kept_kind s.kept ≡ kind };
-
-    ghost joins_in_place = { λ s. kept_kind s.kept ≡ kinds.Num };
 
     fn unit(_alloc: Global, kind: Kind) -> Self {
         let kept = Kept::none(kind);

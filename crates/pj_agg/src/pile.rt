@@ -107,12 +107,13 @@ impl<T: Item> Pile<T> {
         Ok(cells.len())
     }
 
-    /// Writes the bytes of the distinct values behind others.
+    /// Writes the bytes of the distinct values behind others, or nothing.
     pub(crate) fn encode(&self, out: &mut Vec<u8>) -> Result<(), NoMemory>
         ensures bytes { OnOk result (out.new.items
             ≡ out.old.items ++ state_bytes (Distinct (in_order (map T.value self.now.items.items)))) }
         ensures whole { OnOk result (IsSummary aggregates.UniqExact T.kind
             (Distinct (in_order (map T.value self.now.items.items)))) }
+        ensures same { OnErr result (out.new.items ≡ out.old.items) }
     {
         write_distinct(out, self.items.as_slice())
     }

@@ -1,5 +1,6 @@
 //! Distinct values as bytes: their number, and each in their order.
-ghost use Rattle.std.specs.Prelude.{◌≡◌, List, [], ◌∷◌, ◌++◌, false, true, flat_map, map, IfOk, OnOk};
+ghost use Rattle.std.specs.Prelude.{◌≡◌, List, [], ◌∷◌, ◌++◌, false, true, flat_map, length, map, take};
+ghost use Rattle.std.specs.Prelude.{IfOk, OnOk, OnErr};
 ghost use Rattle.std.specs.List.{AllByRecursion};
 ghost use Rattle.pj_value.specs.declared.value.AggKind.TheVariants as aggregates;
 ghost use Rattle.pj_value.specs.declared.value.Value.{Value};
@@ -14,12 +15,14 @@ use crate::state::StateFault;
 use pj_value::NoMemory;
 use std::alloc::Global;
 
-/// Writes the distinct ones of values behind other bytes. Values that rise are written where they lie.
+/// Writes the distinct ones of values behind other bytes, or nothing. Values that rise are written where they
+/// lie.
 pub(crate) fn write_distinct<T: Item>(out: &mut Vec<u8>, items: &[T]) -> Result<(), NoMemory>
     ensures bytes { OnOk result (out.new.items
         ≡ out.old.items ++ state_bytes (Distinct (in_order (map T.value items.now)))) }
     ensures whole { OnOk result
         (IsSummary aggregates.UniqExact T.kind (Distinct (in_order (map T.value items.now)))) }
+    ensures same { OnErr result (out.new.items ≡ out.old.items) }
 {
     if is_rising(items) {
         return write_all(out, items);
@@ -28,21 +31,38 @@ pub(crate) fn write_distinct<T: Item>(out: &mut Vec<u8>, items: &[T]) -> Result<
     write_all(out, cells.as_slice())
 }
 
-/// Writes how many values there are, and each of them.
+/// Writes how many values there are, and each of them, or nothing.
 fn write_all<T: Valued>(out: &mut Vec<u8>, items: &[T]) -> Result<(), NoMemory>
     ensures bytes { OnOk result
         (out.new.items ≡ out.old.items ++ state_bytes (Distinct (map T.value items.now))) }
     ensures fits { OnOk result (AllByRecursion Fits (map T.value items.now)) }
+    ensures same { OnErr result (out.new.items ≡ out.old.items) }
+{
+    let len = out.len();
+    let written = write_number_and_each(out, items);
+    if written.is_err() {
+        out.truncate(len);
+    }
+    written
+}
+
+/// Writes how many values there are, and each of them. A call that fails may have written a part of it.
+fn write_number_and_each<T: Valued>(out: &mut Vec<u8>, items: &[T]) -> Result<(), NoMemory>
+    ensures bytes { OnOk result
+        (out.new.items ≡ out.old.items ++ state_bytes (Distinct (map T.value items.now))) }
+    ensures fits { OnOk result (AllByRecursion Fits (map T.value items.now)) }
+    ensures kept { take (length out.old.items) out.new.items ≡ out.old.items }
 {
     write_number(out, items.len() as u64)?;
     write_each(out, items)
 }
 
-/// Writes each of the values.
+/// Writes each of the values. A call that fails may have written a part of them.
 fn write_each<T: Valued>(out: &mut Vec<u8>, items: &[T]) -> Result<(), NoMemory>
     ensures bytes { OnOk result
         (out.new.items ≡ out.old.items ++ flat_map value_bytes (map T.value items.now)) }
     ensures fits { OnOk result (AllByRecursion Fits (map T.value items.now)) }
+    ensures kept { take (length out.old.items) out.new.items ≡ out.old.items }
 {
     'items: for item in items {
         write_value(out, item.as_cell())?;

@@ -84,12 +84,13 @@ impl Piles {
         }
     }
 
-    /// Writes the bytes of the distinct values behind others.
+    /// Writes the bytes of the distinct values behind others, or nothing.
     pub(crate) fn encode(&self, out: &mut Vec<u8>) -> Result<(), NoMemory>
         ensures bytes { OnOk result
             (out.new.items ≡ out.old.items ++ state_bytes (Distinct (in_order (piles_values self.now)))) }
         ensures whole { OnOk result
             (IsSummary aggregates.UniqExact (piles_kind self.now) (Distinct (in_order (piles_values self.now)))) }
+        ensures same { OnErr result (out.new.items ≡ out.old.items) }
     {
         match self {
             Piles::Num(pile) => pile.encode(out),

@@ -6,6 +6,7 @@ ghost use Rattle.pj_value.specs.declared.value.Value.{Value};
 ghost use Rattle.pj_value.specs.Values.{kind_of, value_of};
 ghost use Rattle.pj_value.specs.Aggregates.{aggregate_kind};
 ghost use Rattle.pj_value.specs.Summaries.{Summary, Stands, IsSummary, finished, state_bytes};
+ghost use Rattle.pj_agg.specs.StateColumns.{JoinsInPlace};
 ghost use Rattle.pj_agg.specs.declared.state.StateFault.TheVariants as faults;
 
 use pj_value::{Cell, Kind, NoMemory, Value};
@@ -61,9 +62,6 @@ pub trait State: Sized + Drop {
     // The state is one of values of this kind.
     ghost is_of: { Kind → Self → Type 0 };
 
-    // Another state is joined to this one without memory.
-    ghost joins_in_place: { Self → Type 0 };
-
     /// The state of no values. Takes no memory.
     fn unit(alloc: Global, kind: Kind) -> Self
         requires { takes kind }
@@ -91,7 +89,7 @@ pub trait State: Sized + Drop {
             → Stands agg (summary other.now) ws → Stands agg (summary self.new) (vs ++ ws)) }
         ensures kind { (kind : Kind) → is_of kind self.old → is_of kind self.new }
         ensures same { OnErr result (summary self.new ≡ summary self.old) }
-        ensures memory { joins_in_place self.old → IsOk result };
+        ensures memory { (kind : Kind) → is_of kind self.old → JoinsInPlace agg kind → IsOk result };
 
     /// The aggregate of the values that it stands for.
     fn finish(&self, alloc: Global) -> Result<Value, NoMemory>
@@ -100,11 +98,12 @@ pub trait State: Sized + Drop {
         ensures kind { IfOk result
             (λ v. (kind : Kind) → is_of kind self.now → kind_of v ≡ aggregate_kind agg kind) };
 
-    /// Writes its bytes behind others. A call that fails may have written a part of them.
+    /// Writes its bytes behind others, or nothing.
     fn encode(&self, out: &mut Vec<u8>) -> Result<(), NoMemory>
         ensures bytes { OnOk result (out.new.items ≡ out.old.items ++ state_bytes (summary self.now)) }
         ensures whole { OnOk result
-            ((kind : Kind) → is_of kind self.now → IsSummary agg kind (summary self.now)) };
+            ((kind : Kind) → is_of kind self.now → IsSummary agg kind (summary self.now)) }
+        ensures same { OnErr result (out.new.items ≡ out.old.items) };
 
     /// The state of values of this kind that has these bytes.
     fn decode(alloc: Global, kind: Kind, bytes: &[u8]) -> Result<Self, StateFault>

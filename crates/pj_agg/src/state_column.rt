@@ -1,5 +1,5 @@
 //! The states of one call, one for each group.
-ghost use Rattle.std.specs.Prelude.{◌≡◌, ◌<◌, List, [], length, map, max, IfOk, OnOk};
+ghost use Rattle.std.specs.Prelude.{◌≡◌, ◌<◌, ◌≤◌, List, [], length, map, max, IfOk, OnOk};
 ghost use Rattle.std.specs.List.{All, AllZip};
 ghost use Rattle.pj_value.specs.declared.value.AggKind.TheVariants as aggregates;
 ghost use Rattle.pj_value.specs.declared.value.Kind.{Kind};
@@ -83,7 +83,8 @@ impl StateColumn {
         }
     }
 
-    /// Puts states of no values behind the others, up to so many.
+    /// Puts states of no values behind the others, up to so many. After an error some of them may stand
+    /// there: then the states are to be let go of.
     pub fn grow(&mut self, alloc: Global, len: usize) -> Result<(), NoMemory>
         ensures agg { self.new.agg ≡ self.old.agg }
         ensures kind { self.new.kind ≡ self.old.kind }
@@ -91,6 +92,7 @@ impl StateColumn {
         ensures grown { OnOk result ((groups : List (List Value))
             → AllZip (Stands self.old.agg) self.old.summaries groups
             → AllZip (Stands self.old.agg) self.new.summaries (grown groups len)) }
+        ensures more { length self.old.summaries ≤ length self.new.summaries }
     {
         match &mut self.states {
             States::Count(states) => grow_states(states, alloc, self.kind, len),
@@ -101,7 +103,8 @@ impl StateColumn {
         }
     }
 
-    /// Puts each value behind those of the group of its number.
+    /// Puts each value behind those of the group of its number. After an error some of them may have been put
+    /// there: then the states are to be let go of.
     pub fn add(&mut self, alloc: Global, numbers: &[usize], values: &Column) -> Result<(), NoMemory>
         requires len { length values.now.values ≡ length numbers.now }
         requires within { All (λ n. n < length self.old.summaries) numbers.now }

@@ -26,8 +26,6 @@ impl State for SumState {
 
     ghost is_of = { λ kind _. kind ≡ kinds.Num };
 
-    ghost joins_in_place = { λ _. Unit {0} };
-
     fn unit(_alloc: Global, _kind: Kind) -> Self {
         SumState { total: 0 }
     }

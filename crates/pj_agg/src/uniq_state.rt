@@ -28,8 +28,6 @@ impl State for UniqState {
 
     ghost is_of = { λ kind s. piles_kind s.piles ≡ kind };
 
-    ghost joins_in_place = { λ _. ⊥ };
-
     fn unit(alloc: Global, kind: Kind) -> Self {
         let piles = Piles::none(alloc, kind);
         UniqState { piles }

@@ -1,12 +1,11 @@
-use Rattle.std.proofs.Common.{◌≡◌, ◌+◌, ◌-◌, ◌<◌, ◌≤◌, suc, max, zero, List, [], ◌∷◌, ◌++◌, length, map, replicate, refl, sym, ap, ◌∙◌, subst, arith}
-use Rattle.std.specs.List.{All, AllZip}
+use Rattle.std.proofs.Common.{◌≡◌, ◌-◌, ◌<◌, ◌≤◌, suc, List, [], ◌∷◌, ◌++◌, length, map, replicate, sym, ap, ◌∙◌, subst, arith}
+use Rattle.std.specs.List.{AllZip}
 use Rattle.std.proofs.lemmas.List.{append-nil, length-map, map-append}
 use Rattle.std.proofs.lemmas.List.{length_push}
 use Rattle.std.proofs.lemmas.List.Elements.{All-push}
 use Rattle.std.proofs.lemmas.Slice.Zip.{AllZip-long}
 use Rattle.pj_value.specs.declared.value.Value.{Value}
-use Rattle.pj_value.specs.Summaries.{Summary, Stands}
-use Rattle.pj_agg.specs.Groups.{grown}
+use Rattle.pj_value.specs.Summaries.{Stands}
 use Rattle.pj_agg.proofs.GroupLemmas.{AllZip-grown}
 use Rattle.pj_agg.proofs.groups.grow_states.Goals as goal
 

@@ -1,8 +1,7 @@
-use Rattle.std.proofs.Common.{◌≡◌, map, sym, ◌∙◌, rules}
+use Rattle.std.proofs.Common.{◌≡◌, map, ◌∙◌, rules}
 use Rattle.std.specs.List.{dedup}
 use Rattle.std.proofs.lemmas.Fn.{dedup_same}
 use Rattle.pj_value.specs.Aggregates.{has_value}
-use Rattle.pj_value.specs.Summaries.{Rises}
 use Rattle.pj_agg.proofs.PileLemmas.{same, dedup-same, permutation-same, Rises-dedup}
 use Rattle.pj_agg.proofs.pile.arrange.Goals as goal
 

@@ -2,7 +2,6 @@ use Rattle.std.proofs.Common.{◌≡◌, ◌-◌, ◌<◌, length, map, sym, ap,
 use Rattle.std.specs.declared.cmp.Ordering.TheVariants.{Less}
 use Rattle.std.proofs.lemmas.List.{get_or-map, length-map}
 use Rattle.std.proofs.lemmas.List.Sorted.{all_adjacent_more}
-use Rattle.pj_value.specs.declared.value.Value.{Value}
 use Rattle.pj_value.specs.Order.{value_cmp}
 use Rattle.pj_value.proofs.RisingLemmas.{Rises-from_neighbours}
 use Rattle.pj_agg.proofs.ListLemmas.{Less-from_is_lt}

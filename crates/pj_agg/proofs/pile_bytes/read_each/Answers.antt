@@ -1,4 +1,4 @@
-use Rattle.std.proofs.Common.{◌≡◌, ◌<◌, ◌==◌, ℕ, [], ◌++◌, List, length, map, take, drop, Err, sym, ap, ◌∙◌, arith}
+use Rattle.std.proofs.Common.{◌≡◌, ◌<◌, ◌==◌, ℕ, List, length, map, take, drop, Err, sym, ap, ◌∙◌, arith}
 use Rattle.std.proofs.Common.{true≢false, take-append-drop}
 use Rattle.std.proofs.lemmas.Result.{err_from_is_err_and}
 use Rattle.pj_agg.specs.declared.state.StateFault.TheVariants as faults

@@ -1,8 +1,7 @@
-use Rattle.std.proofs.Common.{◌≡◌, ◌+◌, ◌<◌, [], ◌∷◌, ◌++◌, List, length, map, set, take, get_or, subst, refl, sym, ap, ◌∙◌, arith}
+use Rattle.std.proofs.Common.{◌+◌, ◌<◌, List, length, map, set, take, get_or, subst, refl, sym, ap, ◌∙◌, arith}
 use Rattle.std.specs.List.{AllZip}
 use Rattle.std.proofs.lemmas.List.{map-set, get_or-map, get_or_default, length-map, length-set, take_all}
 use Rattle.pj_value.specs.declared.value.AggKind.TheVariants as aggregates
-use Rattle.pj_value.specs.declared.value.Value.{Value}
 use Rattle.pj_value.specs.declared.value.Value.TheVariants as values
 use Rattle.pj_value.specs.Summaries.{Summary, Number, Stands}
 use Rattle.pj_agg.specs.declared.count_state.CountState.{CountState}

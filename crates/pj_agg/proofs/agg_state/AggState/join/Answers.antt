@@ -16,3 +16,13 @@ returns-clause-joined c =
       | in-Uniq-Uniq w ↦
           rw (w.result-is, w.self-is, w.in-Uniq-Uniq.is-0, w.in-Uniq-Uniq.is-1) w.join-in-Uniq-Uniq.ensures.joined
     ]
+
+pub returns-clause-memory : goal.returns-clause-memory
+returns-clause-memory c =
+    elim c.match-self.branch [
+      | in-Count-Count w ↦ rw (w.result-is, w.in-Count-Count.is-0) w.join.ensures.memory
+      | in-Sum-Sum w ↦ rw (w.result-is, w.in-Sum-Sum.is-0) w.join-in-Sum-Sum.ensures.memory
+      | in-Min-Min w ↦ rw (w.result-is, w.in-Min-Min.is-0) w.join-in-Min-Min.ensures.memory
+      | in-Max-Max w ↦ rw (w.result-is, w.in-Max-Max.is-0) w.join-in-Max-Max.ensures.memory
+      | in-Uniq-Uniq w ↦ rw (w.result-is, w.in-Uniq-Uniq.is-0) w.join-in-Uniq-Uniq.ensures.memory
+    ]

@@ -1,5 +1,4 @@
-use Rattle.std.proofs.Common.{◌≡◌, map, sym, ap, ◌∙◌}
-use Rattle.pj_value.specs.Summaries.{Distinct, state_bytes, IsSummary}
+use Rattle.std.proofs.Common.{map}
 use Rattle.pj_agg.proofs.InOrderLemmas.{in_order-rising}
 use Rattle.pj_agg.proofs.pile.Pile.decode.Goals as goal
 
