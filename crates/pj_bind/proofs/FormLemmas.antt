@@ -1,13 +1,9 @@
 -- The causes of each form of statement: each gives one refusal at most, and holds or doesn't.
 use Rattle.std.proofs.Common.{◌≡◌, ◌<◌, ◌≤◌, List, [], ◌∷◌, length, Option, Some, None, Contains, refl, sym}
 use Rattle.std.proofs.Common.{◌∙◌, subst, inl, inr}
-use Rattle.std.specs.List.{AllByRecursion}
 use Rattle.std.proofs.lemmas.Option.{same_Some, none-some}
-use Rattle.pj_value.specs.declared.value.AggKind.TheVariants as aggregates
 use Rattle.pj_grammar.specs.declared.types.Statement.{Statement}
 use Rattle.pj_grammar.specs.declared.types.Statement.TheVariants as statements
-use Rattle.pj_grammar.specs.declared.types.TreeItem.{TreeItem}
-use Rattle.pj_grammar.specs.declared.types.TreeItem.TheVariants as tree_items
 use Rattle.pj_grammar.specs.declared.types.TreeSelect.{TreeSelect}
 use Rattle.pj_expr.specs.declared.query.Query.{Query}
 use Rattle.pj_expr.specs.declared.table.Table.{Table}
@@ -19,15 +15,13 @@ use Rattle.pj_bind.specs.declared.types.Refusal.TheVariants.{DuplicateColumn, Un
 use Rattle.pj_bind.specs.declared.types.Refusal.TheVariants.{TypeMismatch, NotAnAggregate}
 use Rattle.pj_bind.specs.Names.{Name, IsFirstUnknown, IsFirstRepeat}
 use Rattle.pj_bind.specs.Filling.{column_names, listed_names, FillColumns}
-use Rattle.pj_bind.specs.Queries.{listed, column_names_of, query_of}
-use Rattle.pj_bind.specs.Built.{IsBuiltItem, IsBuiltSelect, IsBuilt}
+use Rattle.pj_bind.specs.Queries.{column_names_of, query_of}
+use Rattle.pj_bind.specs.Built.{IsBuilt}
 use Rattle.pj_bind.specs.Causes.{◌naming◌}
 use Rattle.pj_bind.specs.Binding.{table_limit, column_limit, new_names}
 use Rattle.pj_bind.specs.Binding.{insert_causes, KindsAre, BreaksGroups, select_causes, form_causes}
 use Rattle.pj_bind.specs.Binding.{causes}
-use Rattle.pj_bind.proofs.decided.Decided.{Decided, HasOrNone, decided-both, decided-by, decided-not}
-use Rattle.pj_bind.proofs.decided.Decided.{decided-le}
-use Rattle.pj_bind.proofs.decided.Decided.{decided-lt, decided-all}
+use Rattle.pj_bind.proofs.decided.Decided.{Decided, HasOrNone, decided-not, decided-le, decided-lt}
 use Rattle.pj_bind.proofs.RepeatLemmas.{decided-Contains, IsFirstRepeat-one, IsFirstRepeat-decided}
 use Rattle.pj_bind.proofs.RepeatLemmas.{IsFirstUnknown-one, IsFirstUnknown-decided}
 use Rattle.pj_bind.proofs.decided.FillingDecided.{decided-FillColumns}
@@ -87,34 +81,14 @@ causes-one tables statement =
 -- ---- decided
 
 -- what is built
-decided-IsBuiltItem : (item : TreeItem) → Decided (IsBuiltItem item)
-decided-IsBuiltItem (tree_items.Value tree) = inl tt
-decided-IsBuiltItem (tree_items.Call aggregates.Count argument) = inl refl
-decided-IsBuiltItem (tree_items.Call aggregates.Sum argument) = inr (λ e. cc)
-decided-IsBuiltItem (tree_items.Call aggregates.Min argument) = inr (λ e. cc)
-decided-IsBuiltItem (tree_items.Call aggregates.Max argument) = inr (λ e. cc)
-decided-IsBuiltItem (tree_items.Call aggregates.UniqExact argument) = inr (λ e. cc)
-
 decided-empty : {X : Type 0} (xs : List X) → Decided (xs ≡ [])
 decided-empty [] = inl refl
 decided-empty (x ∷ xs) = inr (λ e. cc)
 
-decided-IsBuiltSelect : (select : TreeSelect) → Decided (IsBuiltSelect select)
-decided-IsBuiltSelect select =
-    decided-by {P = AllByRecursion (λ i. IsBuiltItem i.item) (listed select.items)
-    × ((select.groups ≡ []) × (AllByRecursion (λ key. IsBuiltItem key.item) select.order
-    × (select.sets ≡ [])))}
-    (λ all. record { items = all.0; groups = all.1.0; order = all.1.1.0; sets = all.1.1.1 })
-    (λ built. (built.items, (built.groups, (built.order, built.sets))))
-    (decided-both (decided-all (λ i. decided-IsBuiltItem i.item) (listed select.items))
-    (decided-both (decided-empty select.groups)
-    (decided-both (decided-all (λ key. decided-IsBuiltItem key.item) select.order)
-    (decided-empty select.sets))))
-
 pub decided-IsBuilt : (statement : Statement) → Decided (IsBuilt statement)
 decided-IsBuilt (statements.Create name columns projections key settings) = decided-empty projections
 decided-IsBuilt (statements.Insert name listed rows) = inl tt
-decided-IsBuilt (statements.Select select) = decided-IsBuiltSelect select
+decided-IsBuilt (statements.Select select) = decided-empty select.sets
 decided-IsBuilt statement = inr (λ built. built)
 
 -- names that repeat

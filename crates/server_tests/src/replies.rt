@@ -95,7 +95,7 @@ fn a_body_binds_or_has_its_first_refusal(rt: HostRuntime) -> Result<(), Fail> {
         ),
         ("SELECT count(*) FROM u", "1 a UNKNOWN_TABLE u\n"),
         ("INSERT INTO u VALUES (1)", "1 a UNKNOWN_TABLE u\n"),
-        ("SELECT x FROM u GROUP BY x", "1 a NOT_BUILT\n"),
+        ("SELECT x FROM u GROUP BY x", "1 a UNKNOWN_TABLE u\n"),
         ("OPTIMIZE TABLE u FINAL", "1 a NOT_BUILT\n"),
         ("SELECT count() FROM", "1 a SYNTAX_ERROR 19\n"),
         ("SELECT , FROM u", "1 a SYNTAX_ERROR 7\n"),
