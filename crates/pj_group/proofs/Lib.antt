@@ -1,5 +1,14 @@
+pub mod ArrangedLemmas
 pub mod ColumnLemmas
 pub mod CountLemmas
+pub mod DenseLemmas
+pub mod GroupingLemmas
+pub mod HeldLemmas
+pub mod KeyedLemmas
 pub mod LeastLemmas
+pub mod LineLemmas
+pub mod NumbersLemmas
 pub mod OrderLemmas
+pub mod RegroupLemmas
 pub mod RowLemmas
+pub mod SlotLemmas

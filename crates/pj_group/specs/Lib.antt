@@ -1,3 +1,10 @@
 pub mod Counts
+pub mod Dense
+pub mod Forms
 pub mod Indexes
+pub mod Keyed
 pub mod Least
+pub mod Lines
+pub mod Numbers
+pub mod Slots
+pub mod Standing

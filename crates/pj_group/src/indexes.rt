@@ -1,7 +1,8 @@
 //! The indexes of the rows that a query keeps, in the order that ORDER BY asks for.
-ghost use Rattle.std.specs.Prelude.{◌≡◌, ◌<◌, IfOk, length, map};
+ghost use Rattle.std.specs.Prelude.{◌≡◌, ◌<◌, IfOk, IsTrue, length, map};
 ghost use Rattle.std.specs.List.{filter, range_with_len, All};
 ghost use Rattle.pj_value.specs.Rows.{rows_at};
+ghost use Rattle.pj_expr.specs.declared.cond.Cond.TheVariants as conds;
 ghost use Rattle.pj_expr.specs.Eval.{holds};
 ghost use Rattle.pj_expr.specs.Fits.{FitsCond};
 ghost use Rattle.pj_group.specs.Least.{AreFirst};
@@ -19,6 +20,8 @@ pub(crate) fn indexes_kept(alloc: Global, cond: &Cond, rows: &Rows) -> Result<Ve
     requires { FitsCond rows.now.kinds cond.now }
     ensures within { IfOk result (λ ps. All (λ at. at < length rows.now.rows) ps.items) }
     ensures rows { IfOk result (λ p. rows_at rows.now.rows p.items ≡ filter (holds cond.now) rows.now.rows) }
+    ensures all { IfOk result
+        (λ ps. cond.now ≡ conds.All → ps.items ≡ range_with_len 0 (length rows.now.rows)) }
 {
     match cond {
         Cond::All => {
@@ -29,8 +32,18 @@ pub(crate) fn indexes_kept(alloc: Global, cond: &Cond, rows: &Rows) -> Result<Ve
     }
 }
 
+/// Whether a filter keeps all rows, whatever they are.
+pub(crate) fn keeps_all(filter: &Cond) -> bool
+    ensures { IsTrue result → filter.now ≡ conds.All }
+{
+    match filter {
+        Cond::All => true,
+        _ => false,
+    }
+}
+
 /// The indexes of this many rows.
-fn all_indexes(alloc: Global, len: usize) -> Result<Vec<usize>, NoMemory>
+pub(crate) fn all_indexes(alloc: Global, len: usize) -> Result<Vec<usize>, NoMemory>
     ensures { IfOk result (λ ps. ps.items ≡ range_with_len 0 len) }
 {
     let mut indexes = Vec::with_capacity(alloc, len)?;
@@ -61,7 +74,7 @@ pub(crate) fn first_indexes(
 }
 
 /// The first of these indexes in the order of keys. They are sorted whole only where LIMIT leaves none out.
-fn first_by(
+pub(crate) fn first_by(
     alloc: Global,
     indexes: Vec<usize>,
     keys: &[Key<'_>],

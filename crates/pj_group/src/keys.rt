@@ -1,5 +1,5 @@
 //! The keys of ORDER BY, each as a column for all rows, by which rows are compared where they lie.
-ghost use Rattle.std.specs.Prelude.{◌≡◌, IfOk, map, replicate, slice_index_or};
+ghost use Rattle.std.specs.Prelude.{◌≡◌, IfOk, length, map, replicate, slice_index_or};
 ghost use Rattle.std.specs.List.{All};
 ghost use Rattle.pj_value.specs.Values.{value_of};
 ghost use Rattle.pj_value.specs.declared.value.Value.TheVariants as values;
@@ -7,6 +7,7 @@ ghost use Rattle.pj_answer.specs.Answers.{turned};
 ghost use Rattle.pj_expr.specs.Eval.{eval};
 ghost use Rattle.pj_expr.specs.Fits.{FitsExpr};
 ghost use Rattle.pj_group.specs.Indexes.{FitsRow, key_for, values_in, key_values, values_cmp, indexes_cmp};
+ghost use Rattle.pj_group.specs.Lines.{keys_in_columns};
 
 use pj_block::eval_block;
 use pj_expr::{Expr, Item, OrderKey};
@@ -43,6 +44,32 @@ pub(crate) fn keys_of<'a>(
         found.push(key_of(alloc, key, rows)?)?;
     }
     Ok(found)
+}
+
+/// The keys of ORDER BY, whose values are in these columns.
+pub(crate) fn lent_keys<'a>(
+    alloc: Global,
+    keys: &[OrderKey],
+    columns: &'a [Column],
+) -> Result<Vec<Key<'a>>, NoMemory>
+    requires { length columns.now ≡ length keys.now }
+    ensures { IfOk result (λ ks. map key_values ks.items ≡ keys_in_columns keys.now columns.now) }
+{
+    let mut found = Vec::with_capacity(alloc, keys.len())?;
+    for at in 0..keys.len() {
+        found.push(lent_key(&keys[at], &columns[at]))?;
+    }
+    Ok(found)
+}
+
+/// A key whose values are in this column.
+fn lent_key<'a>(key: &OrderKey, column: &'a Column) -> Key<'a>
+    ensures { key_values result ≡ record { descending = key.now.descending; values = column.now.values } }
+{
+    Key {
+        values: Values::Lent(column),
+        descending: key.descending,
+    }
 }
 
 /// A key for all rows.

@@ -2,10 +2,18 @@
 #![tactic(auto)]
 
 mod counts;
+mod dense;
+mod forms;
+mod groups;
 mod indexes;
 mod items;
+mod keyed;
 mod keys;
 mod least;
+mod lines;
+mod numbers;
 mod selection;
+mod slots;
 
+pub use groups::Groups;
 pub use selection::select;
