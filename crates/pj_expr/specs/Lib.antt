@@ -1,3 +1,4 @@
 pub mod Eval
 pub mod Fits
 pub mod Tables
+pub mod Parts

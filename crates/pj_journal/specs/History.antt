@@ -1,6 +1,6 @@
 -- What a history leaves: the catalog, the blocks and rows of a table, the next number (docs/MODEL.md,
 -- "Histories").
-use Rattle.std.specs.Prelude.{◌≡◌, ◌<◌, ℕ, ◌+◌, List, [], ◌∷◌, ◌++◌, length, map, fold}
+use Rattle.std.specs.Prelude.{◌≡◌, ◌<◌, ℕ, ◌+◌, List, [], ◌∷◌, ◌++◌, length, fold}
 use Rattle.std.specs.Prelude.{◌==◌, if◌then◌else◌, Option, Some, None, slice_get, Contains}
 use Rattle.std.specs.List.{flat_map}
 use Rattle.pj_value.specs.declared.value.Kind.{Kind}

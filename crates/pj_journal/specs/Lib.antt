@@ -1,3 +1,4 @@
 pub mod Log
 pub mod History
 pub mod Moves
+pub mod Parts

@@ -5,8 +5,10 @@
 mod catalog;
 mod entry;
 mod journal;
+mod laws;
 pub mod types;
 
 pub use catalog::TABLES;
 pub use entry::{Actor, Entry, What};
 pub use journal::{Journal, MoveFault};
+pub use laws::{parts_are_of_blocks, parts_hold_the_rows};
