@@ -39,6 +39,17 @@ module _ {X : Type 0} (value : X → Value) where
   found v xs (Ok i) l h e = found-at v xs i l h
   found v xs (Err i) l h e = absurd (true≢false (sym e))
 
+  -- a value that stands at an index is there
+  pub found-there : (v : Value) (xs : List X) (i : ℕ) (x : X) → i < length xs → x ≡ get_or xs i x
+      → same_value (value x) v ≡ true → has_value v (map value xs) ≡ true
+  found-there v [] i x l e h = absurd (omega arith)
+  found-there v (y ∷ xs) zero x l e h =
+      or_left (same_value v (value y)) (has_value v (map value xs))
+      (subst (λ w. same_value v w ≡ true) (sym (same_value-equal (value x) v h) ∙ ap value e)
+      (same_value-itself v))
+  found-there v (y ∷ xs) (suc i) x l e h =
+      has_value-later v (value y) (map value xs) (found-there v xs i x (omega arith) e h)
+
   -- and is so among more
   pub has_value-take : (v : Value) (n : ℕ) (xs : List X) → has_value v (map value (take n xs)) ≡ true
       → has_value v (map value xs) ≡ true

@@ -1,4 +1,4 @@
--- Values in their order, each once: what the state of a number of distinct values keeps of them.
+-- Values in their order, each once: what is kept under `uniqExact`.
 use Rattle.std.specs.Prelude.{List, [], ◌∷◌}
 use Rattle.std.specs.Ordering.{match_ordering}
 use Rattle.pj_value.specs.declared.value.Value.{Value}

@@ -22,7 +22,7 @@ Takes aggregates.Min kind = Unit {0}
 Takes aggregates.Max kind = Unit {0}
 Takes aggregates.UniqExact kind = Unit {0}
 
--- states of values of this kind are joined without memory: counts, totals, and least or greatest numbers
+-- states of values of this kind are always joined: counts, totals, and least or greatest numbers
 abbrev pub JoinsInPlace : AggKind → Kind → Type 0
 JoinsInPlace aggregates.Count kind = Unit {0}
 JoinsInPlace aggregates.Sum kind = Unit {0}

@@ -1,5 +1,5 @@
 //! The states of groups that are numbered from 0, for any kind of state.
-ghost use Rattle.std.specs.Prelude.{◌≡◌, ◌<◌, ◌≤◌, List, [], ◌∷◌, ◌++◌, length, map, max, IfOk, OnOk};
+ghost use Rattle.std.specs.Prelude.{◌≡◌, ◌<◌, ◌≤◌, List, [], ◌∷◌, ◌++◌, length, map, max, take, IfOk, OnOk};
 ghost use Rattle.std.specs.List.{All, AllZip};
 ghost use Rattle.pj_value.specs.declared.value.Kind.{Kind};
 ghost use Rattle.pj_value.specs.declared.value.Value.{Value};
@@ -27,6 +27,8 @@ pub(crate) fn grow_states<S: State>(
     ensures kind { All (S.is_of kind) states.old.items → All (S.is_of kind) states.new.items }
     ensures len { OnOk result (length states.new.items ≡ max (length states.old.items) len) }
     ensures more { length states.old.items ≤ length states.new.items }
+    ensures kept { take (length (map S.summary states.old.items)) (map S.summary states.new.items)
+        ≡ map S.summary states.old.items }
 {
     'more: while states.len() < len {
         states.push(S::unit(alloc, kind))?;

@@ -5,6 +5,7 @@ mod agg_state;
 mod bytes;
 mod count_state;
 mod groups;
+mod guesses;
 mod item;
 mod kept;
 mod laws;

@@ -11,6 +11,7 @@ ghost use Rattle.pj_value.specs.declared.value.Value.{Value};
 ghost use Rattle.pj_value.specs.Summaries.{HaveSameValues, IsSummary, Rises, Distinct, state_bytes};
 ghost use Rattle.pj_agg.specs.InOrder.{in_order};
 
+use crate::guesses::Guesses;
 use crate::item::{Item, Valued};
 use crate::pile_bytes::{read_distinct, write_distinct};
 use crate::state::StateFault;
@@ -26,6 +27,8 @@ pub(crate) struct Pile<T> {
     items: Vec<T>,
     /// How many of them, from the first on, are known to rise. Only time depends on it.
     sorted: usize,
+    /// Where these may stand.
+    guesses: Guesses,
     ghost within: { sorted ≤ vec_len items },
 }
 
@@ -37,6 +40,7 @@ impl<T: Item> Pile<T> {
         Pile {
             items: Vec::new(alloc),
             sorted: 0,
+            guesses: Guesses::none(alloc),
         }
     }
 
@@ -44,8 +48,12 @@ impl<T: Item> Pile<T> {
     pub(crate) fn from_rising(items: Vec<T>) -> Pile<T>
         ensures { result.items.items ≡ items.items }
     {
-        let sorted = items.len();
-        Pile { items, sorted }
+        let guesses = Guesses::none(*items.allocator());
+        Pile {
+            sorted: items.len(),
+            items,
+            guesses,
+        }
     }
 
     /// Puts a value to the others, unless it is known to be there.
@@ -81,8 +89,21 @@ impl<T: Item> Pile<T> {
     fn has(&self, cell: Cell<'_>) -> bool
         ensures { result ≡ true → has_value (value_of cell.entry) (map T.value self.now.items.items) ≡ true }
     {
+        if self.is_guessed(cell) {
+            return true;
+        }
         let sorted = &self.items.as_slice()[..self.sorted];
         is_found(sorted, cell)
+    }
+
+    /// Whether a value is where it may stand.
+    fn is_guessed(&self, cell: Cell<'_>) -> bool
+        ensures { result ≡ true → has_value (value_of cell.entry) (map T.value self.now.items.items) ≡ true }
+    {
+        match self.guesses.guess(cell) {
+            Some(at) => is_at(self.items.as_slice(), at, cell),
+            None => false,
+        }
     }
 
     /// Sorts fresh values in where they are as many as the others.
@@ -92,6 +113,7 @@ impl<T: Item> Pile<T> {
         if self.items.len() - self.sorted >= self.sorted.max(FEW) {
             arrange(&mut self.items);
             self.sorted = self.items.len();
+            self.guesses.learn(self.items.as_slice());
         }
     }
 
@@ -131,6 +153,13 @@ impl<T: Item> Pile<T> {
         let items = read_distinct(alloc, bytes)?;
         Ok(Pile::from_rising(items))
     }
+}
+
+/// Whether a value stands at this index.
+fn is_at<T: Valued>(items: &[T], at: usize, cell: Cell<'_>) -> bool
+    ensures { result ≡ true → has_value (value_of cell.entry) (map T.value items.now) ≡ true }
+{
+    at < items.len() && cell_cmp(items[at].as_cell(), cell).is_eq()
 }
 
 /// Whether a value is found by halves.

@@ -1,5 +1,5 @@
 //! The states of one call, one for each group.
-ghost use Rattle.std.specs.Prelude.{◌≡◌, ◌<◌, ◌≤◌, List, [], length, map, max, IfOk, OnOk};
+ghost use Rattle.std.specs.Prelude.{◌≡◌, ◌<◌, ◌≤◌, List, [], length, map, max, take, IfOk, OnOk};
 ghost use Rattle.std.specs.List.{All, AllZip};
 ghost use Rattle.pj_value.specs.declared.value.AggKind.TheVariants as aggregates;
 ghost use Rattle.pj_value.specs.declared.value.Kind.{Kind};
@@ -83,8 +83,7 @@ impl StateColumn {
         }
     }
 
-    /// Puts states of no values behind the others, up to so many. After an error some of them may stand
-    /// there: then the states are to be let go of.
+    /// Puts states of no values behind the others, up to so many. After an error fewer of them may stand there.
     pub fn grow(&mut self, alloc: Global, len: usize) -> Result<(), NoMemory>
         ensures agg { self.new.agg ≡ self.old.agg }
         ensures kind { self.new.kind ≡ self.old.kind }
@@ -93,6 +92,7 @@ impl StateColumn {
             → AllZip (Stands self.old.agg) self.old.summaries groups
             → AllZip (Stands self.old.agg) self.new.summaries (grown groups len)) }
         ensures more { length self.old.summaries ≤ length self.new.summaries }
+        ensures kept { take (length self.old.summaries) self.new.summaries ≡ self.old.summaries }
     {
         match &mut self.states {
             States::Count(states) => grow_states(states, alloc, self.kind, len),

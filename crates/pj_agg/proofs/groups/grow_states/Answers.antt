@@ -1,6 +1,7 @@
-use Rattle.std.proofs.Common.{◌≡◌, ◌-◌, ◌<◌, ◌≤◌, suc, List, [], ◌∷◌, ◌++◌, length, map, replicate, sym, ap, ◌∙◌, subst, arith}
+use Rattle.std.proofs.Common.{◌≡◌, take, ◌-◌, ◌<◌, ◌≤◌, suc, List, [], ◌∷◌, ◌++◌, length, map, replicate, sym, ap, ◌∙◌, subst, arith}
 use Rattle.std.specs.List.{AllZip}
-use Rattle.std.proofs.lemmas.List.{append-nil, length-map, map-append}
+use Rattle.std.proofs.Math.Seq.{take-length}
+use Rattle.std.proofs.lemmas.List.{append-nil, length-map, map-append, take-append-le}
 use Rattle.std.proofs.lemmas.List.{length_push}
 use Rattle.std.proofs.lemmas.List.Elements.{All-push}
 use Rattle.std.proofs.lemmas.Slice.Zip.{AllZip-long}
@@ -24,6 +25,7 @@ more-init g c =
           (sym (ap (λ n. groups ++ replicate {A = List Value} n []) none ∙ append-nil groups)) a;
       kind = λ a. a;
       more = omega arith;
+      kept = take-length summaries;
       most = omega arith;
     }
 
@@ -54,6 +56,15 @@ more-preserved g c =
           (c.more.invariant.grown groups a)));
       kind = λ a. All-push (g.S.State.is_of c.args.kind) states one (c.more.invariant.kind a) c.unit.ensures.kind;
       more = omega (arith, long, c.more.invariant.more);
+      kept = ap (take (length (map summary c.args.states.now.items))) (map-append summary states (one ∷ []))
+          ∙ take-append-le (length (map summary c.args.states.now.items)) (map summary states) (summary one ∷ [])
+          (omega (
+            arith,
+            length-map c.args.states.now.items summary,
+            length-map states summary,
+            c.more.invariant.more,
+          ))
+          ∙ c.more.invariant.kept;
       most = omega (arith, long);
     }
 

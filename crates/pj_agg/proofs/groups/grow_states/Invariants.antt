@@ -1,4 +1,4 @@
-use Rattle.std.proofs.Common.{◌≤◌, ◌-◌, max, List, [], ◌++◌, length, map, replicate, vec_len}
+use Rattle.std.proofs.Common.{◌≡◌, take, ◌≤◌, ◌-◌, max, List, [], ◌++◌, length, map, replicate, vec_len}
 use Rattle.std.specs.List.{All, AllZip}
 use Rattle.pj_value.specs.declared.value.Value.{Value}
 use Rattle.pj_value.specs.Summaries.{Stands}
@@ -12,6 +12,8 @@ invariant-more g l = record {
       (groups ++ replicate (length l.states.items - length groups) []);
   kind : All (g.S.State.is_of l.kind) l.initial.states.items → All (g.S.State.is_of l.kind) l.states.items;
   more : length l.initial.states.items ≤ length l.states.items;
+  kept : take (length (map g.S.State.summary l.initial.states.items)) (map g.S.State.summary l.states.items)
+      ≡ map g.S.State.summary l.initial.states.items;
   most : length l.states.items ≤ max (length l.initial.states.items) l.len;
 }
 
