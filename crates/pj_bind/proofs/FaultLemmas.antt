@@ -1,6 +1,6 @@
 -- Why a statement is refused, from what its parts are.
 use Rattle.std.proofs.Common.{◌≡◌, ℕ, ◌<◌, ◌≤◌, List, length, true, false, Option, Some, None, Bor}
-use Rattle.std.proofs.Common.{Result, Ok, Err, IfErr, MatchOption, Contains, refl, sym, subst}
+use Rattle.std.proofs.Common.{MatchOption, Contains, refl, sym, ◌∙◌, subst}
 use Rattle.std.proofs.Common.{inl, inr, arith}
 use Rattle.std.specs.Option.{is_some}
 use Rattle.std.proofs.lemmas.Bool.{false≢true}
@@ -11,13 +11,13 @@ use Rattle.pj_grammar.specs.declared.types.TreeSelect.{TreeSelect}
 use Rattle.pj_expr.specs.declared.query.Query.{Query}
 use Rattle.pj_expr.specs.declared.table.Table.{Table}
 use Rattle.pj_expr.specs.Tables.{names, kinds_of}
-use Rattle.pj_expr.specs.Fits.{KeepsKinds, KeepsGroups}
+use Rattle.pj_expr.specs.Fits.{KeepsKinds}
 use Rattle.pj_bind.specs.declared.binding.BindFault.{BindFault}
 use Rattle.pj_bind.specs.declared.binding.BindFault.TheVariants as faults
 use Rattle.pj_bind.specs.declared.types.LimitName.TheVariants.{Tables, Columns}
 use Rattle.pj_bind.specs.declared.types.Refusal.{Refusal}
 use Rattle.pj_bind.specs.declared.types.Refusal.TheVariants.{Limit, TableExists, DuplicateColumn}
-use Rattle.pj_bind.specs.declared.types.Refusal.TheVariants.{UnknownIdentifier, TypeMismatch, NotAnAggregate}
+use Rattle.pj_bind.specs.declared.types.Refusal.TheVariants.{UnknownIdentifier, TypeMismatch}
 use Rattle.pj_bind.specs.Names.{Name, first_unknown, IsFirstUnknown, NoneRepeats, IsFirstRepeat}
 use Rattle.pj_bind.specs.Filling.{column_names}
 use Rattle.pj_bind.specs.Queries.{column_names_of, query_of}
@@ -25,7 +25,7 @@ use Rattle.pj_bind.specs.Causes.{◌when◌, ◌naming◌, GivesNone, First}
 use Rattle.pj_bind.specs.Binding.{table_limit, column_limit, IsUnknown, new_names, HasRoom, AreOnce}
 use Rattle.pj_bind.specs.Binding.{create_causes, AreKnown, KindsAre, select_causes}
 use Rattle.pj_bind.specs.Binding.{asked_of}
-use Rattle.pj_bind.specs.Faults.{IsFault, IsAt}
+use Rattle.pj_bind.specs.Faults.{IsFault, IsAt, IsMisfit}
 use Rattle.pj_bind.proofs.RepeatLemmas.{IsFirstRepeat-none, IsFirstUnknown-none}
 use Rattle.pj_bind.proofs.TableLemmas.{Contains-at}
 use Rattle.pj_bind.proofs.CauseLemmas.{when-none, naming-none}
@@ -145,27 +145,26 @@ module _ (tables : List Table) (name : Name) (columns : List TreeColumn) (key : 
 -- ---- SELECT
 
 module _ (table : Table) (select : TreeSelect) (query : Query) (known : AreKnown table select)
-    (made : query_of table.columns select ≡ Some query) (kept : KeepsKinds (kinds_of table) query)
-    (r : Result Query BindFault) where
-  -- something besides the groups is given
-  pub select-groups : IfErr r (IsFault (λ x. (x ≡ NotAnAggregate) × (KeepsGroups query → ⊥)))
-      → IfErr r (IsFault (First (asked_of table (select_causes select))))
-  select-groups = by r
-    where
-      kinds : KindsAre table select query
-      kinds = record { made = made; kept = kept }
-
-      by : (s : Result Query BindFault)
-          → IfErr s (IsFault (λ x. (x ≡ NotAnAggregate) × (KeepsGroups query → ⊥)))
-          → IfErr s (IsFault (First (asked_of table (select_causes select))))
-      by (Ok q) is = tt
-      by (Err (faults.Refused x)) is =
-          subst (First (asked_of table (select_causes select))) (sym is.0)
-          (inr (
-            unknown-none (column_names table.columns) (column_names_of select) known,
-            inr (
-              when-none TypeMismatch ((q : Query) → KindsAre table select q → ⊥) (λ none. none query kinds),
-              inl (refl, (query, kinds, is.1)),
-            ),
-          ))
-      by (Err faults.NoMemory) is = tt
+    (made : query_of table.columns select ≡ Some query) where
+  -- a query that doesn't fit refuses the SELECT
+  pub select-misfit : (refusal : Refusal) → IsMisfit table query refusal
+      → First (asked_of table (select_causes select)) refusal
+  select-misfit refusal (inl (is, misfit)) =
+      inr (
+        unknown-none (column_names table.columns) (column_names_of select) known,
+        inl (
+          is,
+          λ q kinds.
+              misfit (subst (KeepsKinds (kinds_of table)) (same_Some q query (sym kinds.made ∙ made))
+              kinds.kept),
+        ),
+      )
+  select-misfit refusal (inr (is, kept, broken)) =
+      let kinds : KindsAre table select query = record { made = made; kept = kept } in
+      inr (
+        unknown-none (column_names table.columns) (column_names_of select) known,
+        inr (
+          when-none TypeMismatch ((q : Query) → KindsAre table select q → ⊥) (λ none. none query kinds),
+          inl (is, (query, kinds, broken)),
+        ),
+      )

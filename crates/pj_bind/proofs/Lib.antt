@@ -5,6 +5,7 @@ mod decided
 mod FaultLemmas
 mod FillingLemmas
 pub mod FormLemmas
+mod LoopLemmas
 mod NameLemmas
 mod QueryLemmas
 mod RepeatLemmas

@@ -1,15 +1,24 @@
 -- The first unknown name of lists joined end to end, and options that are all there.
-use Rattle.std.proofs.Common.{◌≡◌, ℕ, ◌+◌, ◌<◌, List, [], ◌∷◌, ◌++◌, length, map, take, drop, get_or}
+use Rattle.std.proofs.Common.{◌≡◌, ℕ, ◌+◌, ◌<◌, ◌≤◌, List, [], ◌∷◌, ◌++◌, length, map, take, drop, get_or}
 use Rattle.std.proofs.Common.{not, Option, Some, None, zero, suc, refl, sym, ap, ◌∙◌, arith}
-use Rattle.std.specs.Option.{option_map, option_or}
+use Rattle.std.specs.Option.{option_map, option_or, option_and_then, option_zip}
 use Rattle.std.specs.List.{flat_map}
 use Rattle.std.proofs.lemmas.List.{take_more, drop_more, take-append-drop, append-nil, map_more}
+use Rattle.std.proofs.lemmas.List.{take_all}
 use Rattle.std.proofs.lemmas.List.{length-map, get_or-map}
 use Rattle.std.proofs.lemmas.Option.{same_Some, none-some}
 use Rattle.std.proofs.lemmas.List.Concat.{flat_map-append}
 use Rattle.std.proofs.lemmas.List.Folds.{find-append}
 use Rattle.pj_bind.specs.Names.{Name, is_among, first_unknown}
-use Rattle.pj_bind.specs.Queries.{all_of}
+use Rattle.pj_grammar.specs.declared.types.TreeSelect.{TreeSelect}
+use Rattle.pj_expr.specs.declared.expr.Expr.{Expr}
+use Rattle.pj_expr.specs.declared.cond.Cond.{Cond}
+use Rattle.pj_expr.specs.declared.query.Item.{Item}
+use Rattle.pj_expr.specs.declared.query.OrderKey.{OrderKey}
+use Rattle.pj_expr.specs.declared.query.Query.{Query}
+use Rattle.pj_expr.specs.declared.table.ColumnDef.{ColumnDef}
+use Rattle.pj_bind.specs.Queries.{all_of, items_of, filter_of, query_of}
+use Rattle.pj_bind.specs.Parts.{groups_of, order_of, query_with}
 
 module _ {X : Type 0} (known : List Name) (f : X → List Name) (xs : List X) (i : ℕ) (x : X)
     (within : i < length xs) (read : x ≡ get_or xs i x)
@@ -77,3 +86,41 @@ module _ {X Y : Type 0} (f : X → Option Y) (xs : List X) (i : ℕ) (x : X) (wi
   all_of-missing here =
       sym (all_of-none (map f xs) i None (rw (length-map xs f) within)
       (get_or-map f xs i x None within ∙ ap f (sym read) ∙ sym here))
+
+-- all are there
+pub all_of-whole : {X Y : Type 0} (f : X → Option Y) (xs : List X) (i : ℕ) (ys : List Y) → length xs ≤ i
+    → all_of (map f (take i xs)) ≡ Some ys → Some ys ≡ all_of (map f xs)
+all_of-whole f xs i ys all made = sym made ∙ ap (λ zs. all_of (map f zs)) (take_all i xs all)
+
+-- the parts of a query, one by one or at once
+four : (items : Option (List Item)) (filter : Option Cond) (groups : Option (List Expr))
+    (order : Option (List OrderKey)) (limit : Option ℕ)
+    → query_with (option_zip (option_zip items filter) (option_zip groups order)) limit
+    ≡ option_and_then (λ is. option_and_then (λ c. option_and_then (λ gs. option_and_then (λ ks. Some (record {
+      items = is;
+      filter = c;
+      groups = gs;
+      order = ks;
+      limit = limit;
+    })) order) groups) filter) items
+four None filter groups order limit = refl
+four (Some is) None groups order limit = refl
+four (Some is) (Some c) None order limit = refl
+four (Some is) (Some c) (Some gs) None limit = refl
+four (Some is) (Some c) (Some gs) (Some ks) limit = refl
+
+-- the query of a SELECT
+pub query_of-with : (columns : List ColumnDef) (select : TreeSelect) (shown : Option (List Item × Cond))
+    (arranged : Option (List Expr × List OrderKey))
+    (parts : Option ((List Item × Cond) × (List Expr × List OrderKey))) (made : Option Query)
+    → shown ≡ option_zip (items_of columns select.items) (filter_of columns select.filter)
+    → arranged ≡ option_zip (groups_of columns select) (order_of columns select)
+    → parts ≡ option_zip shown arranged → made ≡ query_with parts select.limit
+    → made ≡ query_of columns select
+query_of-with columns select shown arranged parts made one two both is =
+    is ∙ ap (λ p. query_with p select.limit) both
+    ∙ ap (λ p. query_with (option_zip p arranged) select.limit) one
+    ∙ ap (λ p. query_with (option_zip (option_zip (items_of columns select.items)
+    (filter_of columns select.filter)) p) select.limit) two
+    ∙ four (items_of columns select.items) (filter_of columns select.filter)
+    (groups_of columns select) (order_of columns select) select.limit

@@ -1,6 +1,7 @@
 pub mod Names
 pub mod Meanings
 pub mod Queries
+pub mod Parts
 pub mod Filling
 pub mod Sources
 pub mod Tables

@@ -8,7 +8,7 @@ ghost use Rattle.pj_bind.specs.Built.{IsBuilt};
 ghost use Rattle.pj_bind.specs.Causes.{First};
 ghost use Rattle.pj_bind.specs.Binding.{IsBound, IsUnknown, CanBeCreated, AreColumns, Asks};
 ghost use Rattle.pj_bind.specs.Binding.{create_causes, insert_causes, select_causes, asked_of};
-ghost use Rattle.pj_bind.specs.Faults.{IsFault, IsBindFault, IsBuiltFault, IsAt};
+ghost use Rattle.pj_bind.specs.Faults.{IsFault, IsBindFault, IsBuiltFault, IsAt, IsMisfit};
 ghost use Rattle.pj_bind.specs.declared.binding.BindFault.TheVariants as faults;
 
 use crate::built::is_built;
@@ -262,37 +262,25 @@ fn query_over(alloc: Global, table: &Table, select: &TreeSelect) -> Result<Query
     let Some(query) = query_of(alloc, columns, select)? else {
         return Err(BindFault::Refused(Refusal::TypeMismatch));
     };
-    let query = of_kinds(alloc, table, query)?;
-    grouped(query)
+    check_query(alloc, table, &query)?;
+    Ok(query)
 }
 
-/// The query, unless a part of it doesn't fit the kinds of the table's columns.
-fn of_kinds(alloc: Global, table: &Table, query: Query) -> Result<Query, BindFault>
-    ensures kept { OnOk result (KeepsKinds (kinds_of table.now) query) }
-    ensures same { IfOk result (λ q. q ≡ query) }
-    ensures refused { IfErr result
-        (IsFault (λ r. (r ≡ Refusal.TypeMismatch) × (KeepsKinds (kinds_of table.now) query → ⊥))) }
+/// That the query fits the kinds of the table's columns, and gives nothing else besides where it aggregates,
+/// or why not.
+fn check_query(alloc: Global, table: &Table, query: &Query) -> Result<(), BindFault>
+    ensures kinds { OnOk result (KeepsKinds (kinds_of table.now) query.now) }
+    ensures groups { OnOk result (KeepsGroups query.now) }
+    ensures refused { IfErr result (IsFault (IsMisfit table.now query.now)) }
 {
     let kinds = table.kinds(alloc)?;
-    if keeps_kinds(&query, kinds.as_slice()) {
-        Ok(query)
-    } else {
-        Err(BindFault::Refused(Refusal::TypeMismatch))
+    if !keeps_kinds(query, kinds.as_slice()) {
+        return Err(BindFault::Refused(Refusal::TypeMismatch));
     }
-}
-
-/// The query, unless it aggregates and gives something else besides.
-fn grouped(query: Query) -> Result<Query, BindFault>
-    ensures kept { OnOk result (KeepsGroups query) }
-    ensures same { IfOk result (λ q. q ≡ query) }
-    ensures refused { IfErr result
-        (IsFault (λ r. (r ≡ Refusal.NotAnAggregate) × (KeepsGroups query → ⊥))) }
-{
-    if keeps_groups(&query) {
-        Ok(query)
-    } else {
-        Err(BindFault::Refused(Refusal::NotAnAggregate))
+    if !keeps_groups(query) {
+        return Err(BindFault::Refused(Refusal::NotAnAggregate));
     }
+    Ok(())
 }
 
 /// The number of the table of this name.

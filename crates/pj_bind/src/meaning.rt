@@ -1,5 +1,6 @@
 //! What a tree is once its names are columns: a value or a condition.
-ghost use Rattle.std.specs.Prelude.{◌≡◌, IfOk};
+ghost use Rattle.std.specs.Prelude.{◌≡◌, IfOk, Some};
+ghost use Rattle.std.specs.Option.{option_zip};
 ghost use Rattle.pj_expr.specs.declared.expr.Expr.TheVariants as exprs;
 ghost use Rattle.pj_expr.specs.declared.cond.Cond.TheVariants as conds;
 ghost use Rattle.pj_bind.specs.Meanings.{column_number, column_named, of_value, of_values, of_conditions};
@@ -29,7 +30,7 @@ pub(crate) fn meaning_of(
 {
     match tree {
         Tree::Num(number) => Ok(Some(Meaning::Value(Expr::Num(*number)))),
-        Tree::Text(text) => Ok(Some(Meaning::Value(Expr::Text(text.duplicate(alloc)?)))),
+        Tree::Text(text) => literal(alloc, text),
         Tree::Name(name) => Ok(named(columns, name)),
         Tree::IntDiv(a, divisor) => quotient(alloc, meaning_of(alloc, columns, a.get())?, *divisor),
         Tree::Mod(a, divisor) => remainder(alloc, meaning_of(alloc, columns, a.get())?, *divisor),
@@ -40,6 +41,13 @@ pub(crate) fn meaning_of(
         }
         Tree::Not(a) => opposite(alloc, meaning_of(alloc, columns, a.get())?),
     }
+}
+
+/// A text.
+fn literal(alloc: Global, text: &Text) -> Result<Option<Meaning>, NoMemory>
+    ensures { IfOk result (λ m. m ≡ Some (Meaning.Value (exprs.Text text.now))) }
+{
+    Ok(Some(Meaning::Value(Expr::Text(text.duplicate(alloc)?))))
 }
 
 /// The value that a tree is, if it is one.
@@ -139,18 +147,37 @@ fn pair(
     }
 }
 
+/// Two values, if both are.
+fn values_in(a: Option<Meaning>, b: Option<Meaning>) -> Option<(Expr, Expr)>
+    ensures { result ≡ option_zip (value_in a) (value_in b) }
+{
+    value_in(a).zip(value_in(b))
+}
+
+/// Two conditions, if both are.
+fn conditions_in(a: Option<Meaning>, b: Option<Meaning>) -> Option<(Cond, Cond)>
+    ensures { result ≡ option_zip (condition_in a) (condition_in b) }
+{
+    condition_in(a).zip(condition_in(b))
+}
+
+/// Two parts of a tree, each in a box.
+fn boxed<T: Drop>(alloc: Global, a: T, b: T) -> Result<(Boxed<T>, Boxed<T>), NoMemory>
+    ensures { IfOk result (λ both. both ≡ (a, b)) }
+{
+    let a = Boxed::new(alloc, a)?;
+    let b = Boxed::new(alloc, b)?;
+    Ok((a, b))
+}
+
 /// A sum of two values.
 fn sum(alloc: Global, a: Option<Meaning>, b: Option<Meaning>) -> Result<Option<Meaning>, NoMemory>
     ensures { IfOk result (λ m. m ≡ of_values (λ x y. Meaning.Value (exprs.Add x y)) a b) }
 {
-    let Some(a) = value_in(a) else {
+    let Some((a, b)) = values_in(a, b) else {
         return Ok(None);
     };
-    let Some(b) = value_in(b) else {
-        return Ok(None);
-    };
-    let a = Boxed::new(alloc, a)?;
-    let b = Boxed::new(alloc, b)?;
+    let (a, b) = boxed(alloc, a, b)?;
     Ok(Some(Meaning::Value(Expr::Add(a, b))))
 }
 
@@ -162,14 +189,10 @@ fn product(
 ) -> Result<Option<Meaning>, NoMemory>
     ensures { IfOk result (λ m. m ≡ of_values (λ x y. Meaning.Value (exprs.Mul x y)) a b) }
 {
-    let Some(a) = value_in(a) else {
+    let Some((a, b)) = values_in(a, b) else {
         return Ok(None);
     };
-    let Some(b) = value_in(b) else {
-        return Ok(None);
-    };
-    let a = Boxed::new(alloc, a)?;
-    let b = Boxed::new(alloc, b)?;
+    let (a, b) = boxed(alloc, a, b)?;
     Ok(Some(Meaning::Value(Expr::Mul(a, b))))
 }
 
@@ -177,8 +200,7 @@ fn product(
 fn comparison(op: Op, a: Option<Meaning>, b: Option<Meaning>) -> Option<Meaning>
     ensures { result ≡ compared op a b }
 {
-    let a = value_in(a)?;
-    let b = value_in(b)?;
+    let (a, b) = values_in(a, b)?;
     Some(Meaning::Condition(Cond::Compare(op, a, b)))
 }
 
@@ -186,14 +208,10 @@ fn comparison(op: Op, a: Option<Meaning>, b: Option<Meaning>) -> Option<Meaning>
 fn both(alloc: Global, a: Option<Meaning>, b: Option<Meaning>) -> Result<Option<Meaning>, NoMemory>
     ensures { IfOk result (λ m. m ≡ of_conditions conds.And a b) }
 {
-    let Some(a) = condition_in(a) else {
+    let Some((a, b)) = conditions_in(a, b) else {
         return Ok(None);
     };
-    let Some(b) = condition_in(b) else {
-        return Ok(None);
-    };
-    let a = Boxed::new(alloc, a)?;
-    let b = Boxed::new(alloc, b)?;
+    let (a, b) = boxed(alloc, a, b)?;
     Ok(Some(Meaning::Condition(Cond::And(a, b))))
 }
 
@@ -205,13 +223,9 @@ fn either(
 ) -> Result<Option<Meaning>, NoMemory>
     ensures { IfOk result (λ m. m ≡ of_conditions conds.Or a b) }
 {
-    let Some(a) = condition_in(a) else {
+    let Some((a, b)) = conditions_in(a, b) else {
         return Ok(None);
     };
-    let Some(b) = condition_in(b) else {
-        return Ok(None);
-    };
-    let a = Boxed::new(alloc, a)?;
-    let b = Boxed::new(alloc, b)?;
+    let (a, b) = boxed(alloc, a, b)?;
     Ok(Some(Meaning::Condition(Cond::Or(a, b))))
 }

@@ -1,6 +1,6 @@
 //! The query of a SELECT, and the first of its names that is no column.
 ghost use Rattle.std.specs.Prelude.{◌≡◌, IfOk, map};
-ghost use Rattle.std.specs.Option.{option_map};
+ghost use Rattle.std.specs.Option.{option_map, option_zip};
 ghost use Rattle.std.specs.List.{flat_map};
 ghost use Rattle.pj_bind.specs.Names.{first_unknown};
 ghost use Rattle.pj_bind.specs.Filling.{column_names};
@@ -9,6 +9,7 @@ ghost use Rattle.pj_bind.specs.Queries.{item_named, value_named, key_named, name
 ghost use Rattle.pj_bind.specs.Queries.{names_of_group, names_of_key, column_names_of, all_of};
 ghost use Rattle.pj_bind.specs.Queries.{value_of_tree, argument_of, item_of, every_column, items_of};
 ghost use Rattle.pj_bind.specs.Queries.{filter_of, value_of_item, group_of, key_item_of, key_of, query_of};
+ghost use Rattle.pj_bind.specs.Parts.{groups_of, order_of, query_with};
 
 use crate::meaning::{condition_in, meaning_of, value_in};
 use crate::names::unknown_in_tree;
@@ -202,26 +203,55 @@ pub(crate) fn query_of(
 ) -> Result<Option<Query>, NoMemory>
     ensures { IfOk result (λ q. q ≡ query_of columns.now select.now) }
 {
+    let shown = items_and_filter(alloc, columns, select)?;
+    let arranged = groups_and_order(alloc, columns, select)?;
+    Ok(query_with(shown.zip(arranged), select.limit))
+}
+
+/// What a query gives, and of which rows.
+fn items_and_filter(
+    alloc: Global,
+    columns: &[ColumnDef],
+    select: &TreeSelect,
+) -> Result<Option<(List<Item>, Cond)>, NoMemory>
+    ensures { IfOk result (λ shown. shown
+        ≡ option_zip (items_of columns.now select.now.items) (filter_of columns.now select.now.filter)) }
+{
+    let items = items_of(alloc, columns, &select.items)?;
+    let filter = filter_of(alloc, columns, &select.filter)?;
+    Ok(items.zip(filter))
+}
+
+/// How a query groups what it gives, and in which order it gives it.
+fn groups_and_order(
+    alloc: Global,
+    columns: &[ColumnDef],
+    select: &TreeSelect,
+) -> Result<Option<(List<Expr>, List<OrderKey>)>, NoMemory>
+    ensures { IfOk result (λ arranged. arranged
+        ≡ option_zip (groups_of columns.now select.now) (order_of columns.now select.now)) }
+{
     let named = listed(&select.items);
-    let Some(items) = items_of(alloc, columns, &select.items)? else {
-        return Ok(None);
-    };
-    let Some(filter) = filter_of(alloc, columns, &select.filter)? else {
-        return Ok(None);
-    };
-    let Some(groups) = groups_of(alloc, columns, named, select.groups.as_slice())? else {
-        return Ok(None);
-    };
-    let Some(order) = keys_of(alloc, columns, named, select.order.as_slice())? else {
-        return Ok(None);
-    };
-    Ok(Some(Query {
+    let groups = groups_of(alloc, columns, named, select.groups.as_slice())?;
+    let order = keys_of(alloc, columns, named, select.order.as_slice())?;
+    Ok(groups.zip(order))
+}
+
+/// The query of these parts, if they are there.
+fn query_with(
+    parts: Option<((List<Item>, Cond), (List<Expr>, List<OrderKey>))>,
+    limit: Option<u64>,
+) -> Option<Query>
+    ensures { result ≡ query_with parts limit }
+{
+    let ((items, filter), (groups, order)) = parts?;
+    Some(Query {
         items,
         filter,
         groups,
         order,
-        limit: select.limit,
-    }))
+        limit,
+    })
 }
 
 fn value_of_tree(

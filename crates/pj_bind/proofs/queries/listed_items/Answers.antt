@@ -1,7 +1,7 @@
 use Rattle.std.proofs.Common.{sym, ◌∙◌, arith}
 use Rattle.pj_grammar.specs.declared.types.Listed.{Listed}
 use Rattle.pj_bind.specs.Queries.{item_of}
-use Rattle.pj_bind.proofs.QueryLemmas.{all_of-more, all_of-missing}
+use Rattle.pj_bind.proofs.QueryLemmas.{all_of-more, all_of-missing, all_of-whole}
 use Rattle.pj_bind.proofs.queries.listed_items.Goals as goal
 
 pub returns-in-None : goal.returns-in-None
@@ -15,3 +15,9 @@ items-preserved c =
     c.listed-item.result (omega arith) c.listed-item.is c.items.found.items
     c.push.new.self.items c.in-Some.item c.items.invariant
     (sym c.in-Some.is ∙ c.in_ok-item.ensures) c.in_ok-push-in-Some.ensures.items
+
+pub returns : goal.returns
+returns c =
+    rw c.from_vec.ensures
+    (all_of-whole (λ (i : Listed). item_of c.args.columns.now i.item) c.args.items.now c.items.listed-index c.items.found.items
+    (omega arith) c.items.invariant)
