@@ -1,9 +1,9 @@
 -- The lines of an answer in the order of keys, cut by LIMIT.
 use Rattle.std.proofs.Common.{◌≡◌, ℕ, zero, suc, ◌+◌, ◌<◌, List, [], ◌∷◌, ◌++◌, length, map, get_or, take}
-use Rattle.std.proofs.Common.{Option, Some, None, refl, sym, ap, ◌∙◌, subst, arith}
+use Rattle.std.proofs.Common.{Option, refl, sym, ap, ◌∙◌, subst, arith}
 use Rattle.std.specs.List.{filter, range_with_len}
 use Rattle.std.specs.List.Sorted.{IsPermutation}
-use Rattle.std.proofs.lemmas.List.{length-map, take-map}
+use Rattle.std.proofs.lemmas.List.{length-map}
 use Rattle.std.proofs.lemmas.List.Sorted.{IsPermutation-refl}
 use Rattle.pj_value.specs.declared.value.Kind.{Kind}
 use Rattle.pj_value.specs.Columns.{KindedValues}
@@ -16,7 +16,7 @@ use Rattle.pj_answer.specs.Rows.{first_of}
 use Rattle.pj_group.specs.Indexes.{is_before}
 use Rattle.pj_group.specs.Least.{AreFirst}
 use Rattle.pj_group.specs.Lines.{line_of, lines_of, column_over, key_over, keys_in_columns, AreFirstLines}
-use Rattle.pj_group.proofs.LineLemmas.{by_indexes, answers-lines, AreFirst-within, rows_at-lines}
+use Rattle.pj_group.proofs.LineLemmas.{by_indexes, answers-lines, AreFirst-within, rows_at-lines, first_of-map}
 
 -- ---- keys in columns
 
@@ -44,12 +44,6 @@ keys_in_columns-over columns groups (key ∷ keys) =
     ap (λ ks. key_over columns groups key ∷ ks) (keys_in_columns-over columns groups keys)
 
 -- ---- the first lines
-
--- the first of what a function gives
-first_of-map : {X Y : Type 0} (limit : Option ℕ) (f : X → Y) (xs : List X)
-    → first_of limit (map f xs) ≡ map f (first_of limit xs)
-first_of-map None f xs = refl
-first_of-map (Some n) f xs = take-map f n xs
 
 -- without keys any lines stand in order
 pub AreFirstLines-cut : (limit : Option ℕ) (lines out : KindedRows)

@@ -22,7 +22,7 @@ use Rattle.pj_group.specs.Least.{AreFirst, IsBehind, KeepsFirst}
 -- ---- counts
 
 -- what holds of each element
-All-each : {X : Type 0} (P : X → Type 0) (xs : List X) → ((x : X) → Contains xs x → P x) → All P xs
+pub All-each : {X : Type 0} (P : X → Type 0) (xs : List X) → ((x : X) → Contains xs x → P x) → All P xs
 All-each P xs h = All-weaker (Contains xs) P h xs (All-contains_itself xs)
 
 -- a test that is turned round
@@ -50,7 +50,7 @@ count_by-none p (x ∷ xs) a =
     count_by-no p x xs (All-head (λ x. p x ≡ false) x xs a)
     ∙ count_by-none p xs (All-tail (λ x. p x ≡ false) x xs a)
 
-count_by-all : {X : Type 0} (p : X → Bool) (xs : List X) → All (λ x. p x ≡ true) xs
+pub count_by-all : {X : Type 0} (p : X → Bool) (xs : List X) → All (λ x. p x ≡ true) xs
     → count_by p xs ≡ length xs
 count_by-all p [] a = refl
 count_by-all p (x ∷ xs) a =
@@ -71,19 +71,19 @@ all-counted : {X : Type 0} (p : X → Bool) (xs : List X) → length xs ≤ coun
 all-counted p [] l = All-nil (λ x. p x ≡ true)
 all-counted p (x ∷ xs) l = all-counted-at p x xs (p x) refl l (all-counted p xs)
 
-module _ (before : ℕ → ℕ → Bool) (o : IsStrictWeakOrder before) where
+module _ {X : Type 0} (before : X → X → Bool) (o : IsStrictWeakOrder before) where
   -- ---- lists in order
 
   -- none of these comes before an element
-  abbrev NoneBefore : ℕ → List ℕ → Type 0
+  abbrev NoneBefore : X → List X → Type 0
   NoneBefore x xs = All (λ y. before y x ≡ false) xs
 
   -- no element comes before an earlier one
-  abbrev IsOrdered : List ℕ → Type 0
+  abbrev IsOrdered : List X → Type 0
   IsOrdered [] = Unit {0}
   IsOrdered (x ∷ xs) = NoneBefore x xs × IsOrdered xs
 
-  ordered-from : (xs : List ℕ) → IsSortedBy before xs → IsOrdered xs
+  ordered-from : (xs : List X) → IsSortedBy before xs → IsOrdered xs
   ordered-from [] up = tt
   ordered-from (x ∷ xs) up = (
     All-from_get_or (λ y. before y x ≡ false) xs x
@@ -93,7 +93,7 @@ module _ (before : ℕ → ℕ → Bool) (o : IsStrictWeakOrder before) where
         rw e at (up (suc k) d (omega arith) (omega arith))),
   )
 
-  sorted-from : (xs : List ℕ) → IsOrdered xs → IsSortedBy before xs
+  sorted-from : (xs : List X) → IsOrdered xs → IsSortedBy before xs
   sorted-from [] up k d l m = absurd (omega arith)
   sorted-from (x ∷ xs) up zero d l m = All-get_or (λ y. before y x ≡ false) xs 0 d (omega arith) up.0
   sorted-from (x ∷ xs) up (suc k) d l m =
@@ -101,14 +101,14 @@ module _ (before : ℕ → ℕ → Bool) (o : IsStrictWeakOrder before) where
       rw e (sorted-from xs up.1 k d (omega arith) (omega arith))
 
   -- the first of a list in order
-  IsOrdered-take : (n : ℕ) (xs : List ℕ) → IsOrdered xs → IsOrdered (take n xs)
+  IsOrdered-take : (n : ℕ) (xs : List X) → IsOrdered xs → IsOrdered (take n xs)
   IsOrdered-take zero xs up = tt
   IsOrdered-take (suc n) [] up = tt
   IsOrdered-take (suc n) (x ∷ xs) up =
       (All-take (λ y. before y x ≡ false) n xs up.0, IsOrdered-take n xs up.1)
 
   -- what follows doesn't come before
-  NoneBefore-rest : (xs ys : List ℕ) (y : ℕ) → IsOrdered (xs ++ ys) → Contains ys y
+  NoneBefore-rest : (xs ys : List X) (y : X) → IsOrdered (xs ++ ys) → Contains ys y
       → All (λ x. before y x ≡ false) xs
   NoneBefore-rest [] ys y up c = All-nil (λ x. before y x ≡ false)
   NoneBefore-rest (x ∷ xs) ys y up c =
@@ -117,8 +117,8 @@ module _ (before : ℕ → ℕ → Bool) (o : IsStrictWeakOrder before) where
       (NoneBefore-rest xs ys y up.1 c)
 
   -- two lists in order, the second behind the first
-  IsOrdered-append : (xs ys : List ℕ) → IsOrdered xs → IsOrdered ys
-      → ((y : ℕ) → Contains ys y → All (λ x. before y x ≡ false) xs) → IsOrdered (xs ++ ys)
+  IsOrdered-append : (xs ys : List X) → IsOrdered xs → IsOrdered ys
+      → ((y : X) → Contains ys y → All (λ x. before y x ≡ false) xs) → IsOrdered (xs ++ ys)
   IsOrdered-append [] ys a b h = b
   IsOrdered-append (x ∷ xs) ys a b h = (
     All-append (λ y. before y x ≡ false) xs ys a.0
@@ -129,13 +129,13 @@ module _ (before : ℕ → ℕ → Bool) (o : IsStrictWeakOrder before) where
   -- ---- each list has an arrangement in order
 
   -- the elements of a list, in order
-  record Arranged (xs : List ℕ) : Type 0 where
-    pub out : List ℕ
+  record Arranged (xs : List X) : Type 0 where
+    pub out : List X
     pub all : IsPermutation xs out
     pub up : IsOrdered out
 
   -- one more element at its place
-  placed-at : (x y : ℕ) (ys : List ℕ) (b : Bool) → before y x ≡ b → IsOrdered (y ∷ ys)
+  placed-at : (x y : X) (ys : List X) (b : Bool) → before y x ≡ b → IsOrdered (y ∷ ys)
       → Arranged (x ∷ ys) → Arranged (x ∷ y ∷ ys)
   placed-at x y ys true e up rest =
       record {
@@ -161,7 +161,7 @@ module _ (before : ℕ → ℕ → Bool) (o : IsStrictWeakOrder before) where
         );
       }
 
-  placed : (x : ℕ) (ys : List ℕ) → IsOrdered ys → Arranged (x ∷ ys)
+  placed : (x : X) (ys : List X) → IsOrdered ys → Arranged (x ∷ ys)
   placed x [] up =
       record {
         out = x ∷ [];
@@ -170,7 +170,7 @@ module _ (before : ℕ → ℕ → Bool) (o : IsStrictWeakOrder before) where
       }
   placed x (y ∷ ys) up = placed-at x y ys (before y x) refl up (placed x ys up.1)
 
-  placed-first : (x : ℕ) (xs : List ℕ) (rest : Arranged xs) → Arranged (x ∷ rest.out) → Arranged (x ∷ xs)
+  placed-first : (x : X) (xs : List X) (rest : Arranged xs) → Arranged (x ∷ rest.out) → Arranged (x ∷ xs)
   placed-first x xs rest more =
       record {
         out = more.out;
@@ -180,7 +180,7 @@ module _ (before : ℕ → ℕ → Bool) (o : IsStrictWeakOrder before) where
         up = more.up;
       }
 
-  arranged : (xs : List ℕ) → Arranged xs
+  arranged : (xs : List X) → Arranged xs
   arranged [] = record { out = []; all = IsPermutation-refl []; up = tt }
   arranged (x ∷ xs) =
       let rest = arranged xs in placed-first x xs rest (placed x rest.out rest.up)
@@ -188,20 +188,20 @@ module _ (before : ℕ → ℕ → Bool) (o : IsStrictWeakOrder before) where
   -- ---- how many don't come after an index
 
   -- what doesn't come after an index
-  abbrev upto : ℕ → ℕ → Bool
+  abbrev upto : X → X → Bool
   upto y x = not (before y x)
 
   -- none of a list in order does, where the first doesn't
-  none-upto : (y x : ℕ) (xs : List ℕ) → NoneBefore x xs → before y x ≡ true → All (λ z. upto y z ≡ false) xs
+  none-upto : (y x : X) (xs : List X) → NoneBefore x xs → before y x ≡ true → All (λ z. upto y z ≡ false) xs
   none-upto y x xs a e = All-weaker (λ z. before z x ≡ false) (λ z. upto y z ≡ false)
       (λ z n. at z n (before y z) refl) xs a
     where
-      at : (z : ℕ) → before z x ≡ false → (b : Bool) → before y z ≡ b → upto y z ≡ false
+      at : (z : X) → before z x ≡ false → (b : Bool) → before y z ≡ b → upto y z ≡ false
       at z n true f = ap not f
       at z n false f = absurd (true≢false (sym e ∙ o.chain y z x f n))
 
   -- where so many don't come after an index, the first don't
-  count-take-at : (y n x : ℕ) (xs : List ℕ) (b : Bool) → before y x ≡ b → NoneBefore x xs
+  count-take-at : (y : X) (n : ℕ) (x : X) (xs : List X) (b : Bool) → before y x ≡ b → NoneBefore x xs
       → suc n ≤ count_by (upto y) (x ∷ xs)
       → (n ≤ count_by (upto y) xs → n ≤ count_by (upto y) (take n xs))
       → suc n ≤ count_by (upto y) (x ∷ take n xs)
@@ -213,7 +213,7 @@ module _ (before : ℕ → ℕ → Bool) (o : IsStrictWeakOrder before) where
       let more = rest (omega (arith, one, l)) in
       omega (arith, count_by-yes (upto y) x (take n xs) (ap not e), more)
 
-  count-take : (y n : ℕ) (xs : List ℕ) → IsOrdered xs → n ≤ count_by (upto y) xs
+  count-take : (y : X) (n : ℕ) (xs : List X) → IsOrdered xs → n ≤ count_by (upto y) xs
       → n ≤ count_by (upto y) (take n xs)
   count-take y zero xs up l = omega arith
   count-take y (suc n) [] up l = l
@@ -221,7 +221,7 @@ module _ (before : ℕ → ℕ → Bool) (o : IsStrictWeakOrder before) where
       count-take-at y n x xs (before y x) refl up.0 l (count-take y n xs up.1)
 
   -- an index that comes after none of them
-  IsBehind-all : (most : ℕ) (xs : List ℕ) (y : ℕ) → All (λ x. before y x ≡ false) xs → most ≤ length xs
+  IsBehind-all : (most : ℕ) (xs : List X) (y : X) → All (λ x. before y x ≡ false) xs → most ≤ length xs
       → IsBehind before most xs y
   IsBehind-all most xs y a l =
       let all = count_by-all (upto y) xs
@@ -234,7 +234,7 @@ module _ (before : ℕ → ℕ → Bool) (o : IsStrictWeakOrder before) where
   upto-le false true h = absurd (true≢false (h refl))
   upto-le false false h = omega arith
 
-  IsBehind-later : (most : ℕ) (kept : List ℕ) (w z : ℕ) → before z w ≡ false → IsBehind before most kept w
+  IsBehind-later : (most : ℕ) (kept : List X) (w z : X) → before z w ≡ false → IsBehind before most kept w
       → IsBehind before most kept z
   IsBehind-later most kept w z e l =
       let more = sum_by-le-sum_by (λ x. cond (upto w x) 1 0) (λ x. cond (upto z x) 1 0) kept
@@ -242,12 +242,12 @@ module _ (before : ℕ → ℕ → Bool) (o : IsStrictWeakOrder before) where
       omega (arith, l, more)
 
   -- one index more
-  IsBehind-push : (most : ℕ) (kept : List ℕ) (z y : ℕ) → IsBehind before most kept y
+  IsBehind-push : (most : ℕ) (kept : List X) (z y : X) → IsBehind before most kept y
       → IsBehind before most (kept ++ z ∷ []) y
   IsBehind-push most kept z y l = omega (arith, l, sum_by_push (λ x. cond (upto y x) 1 0) kept z)
 
   -- the first alone
-  IsBehind-first : (most : ℕ) (kept out : List ℕ) (y : ℕ) → AreFirst before (Some most) kept out
+  IsBehind-first : (most : ℕ) (kept out : List X) (y : X) → AreFirst before (Some most) kept out
       → IsBehind before most kept y → IsBehind before most out y
   IsBehind-first most kept out y f l =
       let same = sum_by-IsPermutation (λ x. cond (upto y x) 1 0) kept f.arrangement f.all in
@@ -256,12 +256,12 @@ module _ (before : ℕ → ℕ → Bool) (o : IsStrictWeakOrder before) where
 
   -- ---- the first indexes
 
-  IsOrdered-first : (most : ℕ) (kept out : List ℕ) → AreFirst before (Some most) kept out → IsOrdered out
+  IsOrdered-first : (most : ℕ) (kept out : List X) → AreFirst before (Some most) kept out → IsOrdered out
   IsOrdered-first most kept out f =
       rw f.first (IsOrdered-take most f.arrangement (ordered-from f.arrangement f.ordered))
 
   -- the last of them
-  IsBehind-last-one : (most : ℕ) (kept out : List ℕ) (w : ℕ) → AreFirst before (Some most) kept out
+  IsBehind-last-one : (most : ℕ) (kept out : List X) (w : X) → AreFirst before (Some most) kept out
       → slice_get out (length out - 1) ≡ Some w → most ≤ length out → IsBehind before most out w
   IsBehind-last-one most kept out w f e l =
       IsBehind-all most out w
@@ -271,7 +271,7 @@ module _ (before : ℕ → ℕ → Bool) (o : IsStrictWeakOrder before) where
       (sorted_far before o out (sorted-from out (IsOrdered-first most kept out f)) i (length out - 1) w
       (omega (arith, m)) (omega (arith, m))))) l
 
-  pub IsBehind-last : (most : ℕ) (kept out : List ℕ) (worst : Option ℕ) → AreFirst before (Some most) kept out
+  pub IsBehind-last : (most : ℕ) (kept out : List X) (worst : Option X) → AreFirst before (Some most) kept out
       → IfSome worst (λ w. slice_get out (length out - 1) ≡ Some w) → IfSome worst (λ w. most ≤ length out)
       → IfSome worst (IsBehind before most out)
   IsBehind-last most kept out None f e l = tt
@@ -280,7 +280,7 @@ module _ (before : ℕ → ℕ → Bool) (o : IsStrictWeakOrder before) where
   -- ---- a walk over the indexes
 
   -- an index that is kept
-  pub KeepsFirst-push : (most : ℕ) (seen kept : List ℕ) (worst : Option ℕ) (z : ℕ)
+  pub KeepsFirst-push : (most : ℕ) (seen kept : List X) (worst : Option X) (z : X)
       → KeepsFirst before most seen kept worst
       → KeepsFirst before most (seen ++ z ∷ []) (kept ++ z ∷ []) worst
   KeepsFirst-push most seen kept worst z h =
@@ -300,7 +300,7 @@ module _ (before : ℕ → ℕ → Bool) (o : IsStrictWeakOrder before) where
       }
 
   -- an index that is skipped
-  KeepsFirst-skip : (most : ℕ) (seen kept : List ℕ) (worst : Option ℕ) (z : ℕ)
+  KeepsFirst-skip : (most : ℕ) (seen kept : List X) (worst : Option X) (z : X)
       → KeepsFirst before most seen kept worst → IsBehind before most kept z
       → KeepsFirst before most (seen ++ z ∷ []) kept worst
   KeepsFirst-skip most seen kept worst z h b =
@@ -313,7 +313,7 @@ module _ (before : ℕ → ℕ → Bool) (o : IsStrictWeakOrder before) where
         bound = h.bound;
       }
 
-  pub KeepsFirst-behind : (most : ℕ) (seen kept : List ℕ) (worst : Option ℕ) (z : ℕ)
+  pub KeepsFirst-behind : (most : ℕ) (seen kept : List X) (worst : Option X) (z : X)
       → KeepsFirst before most seen kept worst → IsSomeAnd worst (λ w. before z w ≡ false)
       → KeepsFirst before most (seen ++ z ∷ []) kept worst
   KeepsFirst-behind most seen kept None z h b = absurd b
@@ -321,7 +321,7 @@ module _ (before : ℕ → ℕ → Bool) (o : IsStrictWeakOrder before) where
       KeepsFirst-skip most seen kept (Some w) z h (IsBehind-later most kept w z b h.bound)
 
   -- what a cut drops
-  behind-cut : (most : ℕ) (a : List ℕ) → IsOrdered a → All (IsBehind before most (take most a)) (drop most a)
+  behind-cut : (most : ℕ) (a : List X) → IsOrdered a → All (IsBehind before most (take most a)) (drop most a)
   behind-cut most a up =
       All-each (IsBehind before most (take most a)) (drop most a)
       (λ y c.
@@ -329,11 +329,11 @@ module _ (before : ℕ → ℕ → Bool) (o : IsStrictWeakOrder before) where
       (NoneBefore-rest (take most a) (drop most a) y (rw (take-append-drop most a) up) c)
       (enough y c))
     where
-      enough : (y : ℕ) → Contains (drop most a) y → most ≤ length (take most a)
+      enough : (y : X) → Contains (drop most a) y → most ≤ length (take most a)
       enough y c = omega (arith, length-take most a, length-drop most a, c.1)
 
   -- the first of those kept
-  pub KeepsFirst-cut : (most : ℕ) (seen kept out : List ℕ) (worst other : Option ℕ)
+  pub KeepsFirst-cut : (most : ℕ) (seen kept out : List X) (worst other : Option X)
       → KeepsFirst before most seen kept worst → AreFirst before (Some most) kept out
       → IfSome other (IsBehind before most out) → KeepsFirst before most seen out other
   KeepsFirst-cut most seen kept out worst other h f bound =
@@ -351,14 +351,14 @@ module _ (before : ℕ → ℕ → Bool) (o : IsStrictWeakOrder before) where
         bound = bound;
       }
     where
-      left : List ℕ
+      left : List X
       left = drop most f.arrangement
 
       parts : IsPermutation kept (out ++ left)
       parts = rw (f.first, take-append-drop most f.arrangement) f.all
 
   -- at the end: the indexes dropped stand behind the first ones
-  ended-at : (most : ℕ) (seen out dropped : List ℕ) → IsPermutation seen (out ++ dropped) → IsOrdered out
+  ended-at : (most : ℕ) (seen out dropped : List X) → IsPermutation seen (out ++ dropped) → IsOrdered out
       → length out ≤ most → All (IsBehind before most out) dropped → (rest : Arranged dropped)
       → take most (out ++ rest.out) ≡ out → AreFirst before (Some most) seen out
   ended-at most seen out dropped all up short behind rest first =
@@ -371,7 +371,7 @@ module _ (before : ℕ → ℕ → Bool) (o : IsStrictWeakOrder before) where
         first = sym first;
       }
     where
-      later : (y : ℕ) → Contains rest.out y → All (λ x. before y x ≡ false) out
+      later : (y : X) → Contains rest.out y → All (λ x. before y x ≡ false) out
       later y c =
           let b : IsBehind before most out y =
           All-contains (IsBehind before most out) rest.out y
@@ -379,7 +379,7 @@ module _ (before : ℕ → ℕ → Bool) (o : IsStrictWeakOrder before) where
           All-weaker (λ x. upto y x ≡ true) (λ x. before y x ≡ false) (λ x. not-true (before y x)) out
           (all-counted (upto y) out (omega (arith, b, short)))
 
-  ended : (most : ℕ) (seen out dropped : List ℕ) → IsPermutation seen (out ++ dropped) → IsOrdered out
+  ended : (most : ℕ) (seen out dropped : List X) → IsPermutation seen (out ++ dropped) → IsOrdered out
       → length out ≤ most → All (IsBehind before most out) dropped → AreFirst before (Some most) seen out
   ended most seen out [] all up short behind =
       ended-at most seen out [] all up short behind
@@ -393,7 +393,7 @@ module _ (before : ℕ → ℕ → Bool) (o : IsStrictWeakOrder before) where
       (take-append-le most out rest.out m ∙ take_all most out short)
 
   -- the first of those kept are the first of all
-  pub AreFirst-kept : (most : ℕ) (seen kept out : List ℕ) (worst : Option ℕ)
+  pub AreFirst-kept : (most : ℕ) (seen kept out : List X) (worst : Option X)
       → KeepsFirst before most seen kept worst → AreFirst before (Some most) kept out
       → AreFirst before (Some most) seen out
   AreFirst-kept most seen kept out worst h f =
@@ -402,7 +402,7 @@ module _ (before : ℕ → ℕ → Bool) (o : IsStrictWeakOrder before) where
       (rw f.first (omega (arith, length-take most f.arrangement))) k.behind
 
   -- where none are asked for
-  pub AreFirst-none : (indexes : List ℕ) → AreFirst before (Some 0) indexes []
+  pub AreFirst-none : (indexes : List X) → AreFirst before (Some 0) indexes []
   AreFirst-none indexes =
       ended 0 indexes [] indexes (IsPermutation-refl indexes) tt (omega arith)
       (All-each (IsBehind before 0 []) indexes (λ y c. omega arith))

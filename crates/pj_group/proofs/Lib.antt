@@ -2,6 +2,8 @@ pub mod ArrangedLemmas
 pub mod ColumnLemmas
 pub mod CountLemmas
 pub mod DenseLemmas
+pub mod FirstLineLemmas
+pub mod FirstRowLemmas
 pub mod GroupingLemmas
 pub mod HeldLemmas
 pub mod KeyedLemmas

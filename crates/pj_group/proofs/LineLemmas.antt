@@ -50,7 +50,7 @@ by_indexes f g xs d h =
     get_or-map-range_with_len f 0 (length xs) k k e m (omega arith) ∙ h k m ∙ sym (get_or-map g xs k d e m))
 
 -- functions that agree at indexes give one list
-at-indexes : {Y : Type 0} (n : ℕ) (f g : ℕ → Y) (ps : List ℕ) → All (λ k. k < n) ps
+pub at-indexes : {Y : Type 0} (n : ℕ) (f g : ℕ → Y) (ps : List ℕ) → All (λ k. k < n) ps
     → ((k : ℕ) → k < n → f k ≡ g k)
     → map f ps ≡ map g ps
 at-indexes n f g [] a h = refl
@@ -67,12 +67,12 @@ AreFirst-within before limit n ps first =
 -- ---- outcomes in order
 
 -- the first of outcomes, and the first of any list
-cut-map : {X : Type 0} (limit : Option ℕ) (f : X → Outcome) (xs : List X)
+pub cut-map : {X : Type 0} (limit : Option ℕ) (f : X → Outcome) (xs : List X)
     → cut limit (map f xs) ≡ map f (first_of limit xs)
 cut-map None f xs = refl
 cut-map (Some n) f xs = take-map f n xs
 
-first_of-map : {X Y : Type 0} (limit : Option ℕ) (f : X → Y) (xs : List X)
+pub first_of-map : {X Y : Type 0} (limit : Option ℕ) (f : X → Y) (xs : List X)
     → first_of limit (map f xs) ≡ map f (first_of limit xs)
 first_of-map None f xs = refl
 first_of-map (Some n) f xs = take-map f n xs
@@ -101,7 +101,7 @@ module _ (q : Query) (rows : KindedRows) (groups : List (List Row)) where
   outcomes-indexes = sym (by_indexes outcome (outcome_of rows.kinds q) groups [] (λ k l. refl))
 
   -- the order rows of two outcomes stand as the keys at their indexes
-  order_cmp-indexes : (keys : List OrderKey) (a b : ℕ) → a < length groups → b < length groups
+  pub order_cmp-indexes : (keys : List OrderKey) (a b : ℕ) → a < length groups → b < length groups
       → indexes_cmp (map (key_over rows.kinds groups) keys) a b
       ≡ order_cmp keys (map (λ (key : OrderKey). item_value rows.kinds (get_or groups a []) key.item) keys)
       (map (λ (key : OrderKey). item_value rows.kinds (get_or groups b []) key.item) keys)

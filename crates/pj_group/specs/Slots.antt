@@ -3,6 +3,7 @@ use Rattle.std.specs.Prelude.{◌≡◌, ℕ, ◌<◌, ◌≤◌, true, List, []
 use Rattle.std.specs.Prelude.{slice_index_or}
 use Rattle.std.specs.List.{All}
 use Rattle.pj_value.specs.declared.value.Kind.{Kind}
+use Rattle.pj_value.specs.Columns.{KindedValues, values_at}
 use Rattle.pj_agg.specs.Groups.{added, grown}
 use Rattle.pj_expr.specs.declared.expr.Expr.{Expr}
 use Rattle.pj_expr.specs.declared.query.Item.{Item}
@@ -48,3 +49,7 @@ pub record Grow (q : Query) (numbers : Numbers) (rows : List Row) (old new : Lis
       ≡ map (λ group. eval e (first_row group)) old
       ++ map (λ at. eval e (slice_index_or rows at [])) numbers.openings.items
   pub longer : length old ≤ length new
+
+-- what is held of a column: its values for the groups at these indexes
+abbrev pub column_at : List ℕ → KindedValues → Slot
+column_at indexes column = First (record { kind = column.kind; values = values_at column.values indexes })

@@ -1,5 +1,5 @@
 //! How rows are divided into groups.
-ghost use Rattle.std.specs.Prelude.{◌≡◌, [], List, IfOk, length, map};
+ghost use Rattle.std.specs.Prelude.{◌≡◌, [], List, Some, IfOk, IfSome, length, map};
 ghost use Rattle.std.specs.List.{All};
 ghost use Rattle.pj_expr.specs.Fits.{FitsExpr};
 ghost use Rattle.pj_value.specs.Rows.{rows_at};
@@ -9,6 +9,7 @@ ghost use Rattle.pj_group.specs.Forms.{Regroups};
 ghost use Rattle.pj_group.specs.Indexes.{item_column, chosen};
 ghost use Rattle.pj_group.specs.Numbers.{AreNumbers};
 ghost use Rattle.pj_group.specs.Standing.{HoldsGroups, groups_of_none};
+ghost use Rattle.pj_group.specs.declared.forms.Form.TheVariants.{Each};
 
 use crate::dense::{Dense, Kept, column_for};
 use crate::keyed::Key;
@@ -50,6 +51,16 @@ pub(crate) fn len_of_none(form: &Form) -> usize
         Form::Each => 0,
         Form::One => 1,
         Form::By(_) => 0,
+    }
+}
+
+/// LIMIT of a query, where each row is a group by itself.
+pub(crate) fn limit_of(form: &Form, query: &Query) -> Option<u64>
+    ensures { IfSome result (λ most. (form.now ≡ Each) × (query.now.limit ≡ Some most)) }
+{
+    match form {
+        Form::Each => query.limit,
+        _ => None,
     }
 }
 

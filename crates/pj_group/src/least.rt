@@ -73,8 +73,8 @@ fn best_with(mut best: Best, at: usize, keys: &[Key<'_>], most: u64) -> Result<B
     }
 }
 
-/// How many indexes are held before they are cut. Only time and memory depend on it.
-fn room(most: u64) -> u64 {
+/// How many indexes, or rows, are held before they are cut. Only time and memory depend on it.
+pub(crate) fn room(most: u64) -> u64 {
     most.saturating_mul(2).max(64)
 }
 

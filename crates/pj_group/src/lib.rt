@@ -5,6 +5,7 @@ mod counts;
 mod dense;
 mod forms;
 mod groups;
+mod held;
 mod indexes;
 mod items;
 mod keyed;

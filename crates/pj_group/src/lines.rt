@@ -1,12 +1,14 @@
 //! The lines of an answer, made of columns, arranged by keys and cut.
-ghost use Rattle.std.specs.Prelude.{◌≡◌, IfOk, length, map};
-ghost use Rattle.std.specs.List.{All};
+ghost use Rattle.std.specs.Prelude.{◌≡◌, Some, IfOk, length, map};
+ghost use Rattle.std.specs.List.{All, range_with_len};
 ghost use Rattle.pj_answer.specs.Rows.{first_of};
 ghost use Rattle.pj_group.specs.Indexes.{key_values, is_before};
+ghost use Rattle.pj_group.specs.Least.{AreFirst};
 ghost use Rattle.pj_group.specs.Lines.{rows_in_columns, keys_in_columns, AreFirstLines};
 
 use crate::indexes::{all_indexes, first_by};
 use crate::keys::{Key, lent_keys};
+use crate::least::cut_to;
 use pj_expr::OrderKey;
 use pj_value::{Column, NoMemory, Rows};
 use std::alloc::Global;
@@ -73,4 +75,26 @@ fn cut_lines(mut lines: Rows, limit: Option<u64>) -> Rows
             lines
         }
     }
+}
+
+/// The indexes of the first of so many lines in the order of ORDER BY, as many as asked for. The values of the
+/// keys are in columns.
+pub(crate) fn first_lines(
+    alloc: Global,
+    keys: &[OrderKey],
+    columns: &[Column],
+    len: usize,
+    most: u64,
+) -> Result<Vec<usize>, NoMemory>
+    requires { length columns.now ≡ length keys.now }
+    ensures { IfOk result (λ ps. AreFirst (is_before (keys_in_columns keys.now columns.now)) (Some most)
+        (range_with_len 0 len) ps.items) }
+{
+    let indexes = all_indexes(alloc, len)?;
+    if keys.is_empty() {
+        return Ok(cut_to(indexes, Some(most)));
+    }
+    let keys = lent_keys(alloc, keys, columns)?;
+    let first = first_by(alloc, indexes, keys.as_slice(), Some(most))?;
+    Ok(first)
 }

@@ -11,7 +11,7 @@ ghost use Rattle.pj_answer.specs.Answers.{Row, item_value, item_kind, or_number}
 ghost use Rattle.pj_group.specs.Dense.{IsKept};
 ghost use Rattle.pj_group.specs.Standing.{IsSlot, AreStates, argument_kind};
 ghost use Rattle.pj_agg.specs.Groups.{added};
-ghost use Rattle.pj_group.specs.Slots.{AreWithin, Grow, IsItemOf, IsOfItem};
+ghost use Rattle.pj_group.specs.Slots.{AreWithin, Grow, IsItemOf, IsOfItem, column_at};
 
 use crate::dense::{Kept, as_column, column_for};
 use crate::numbers::Numbers;
@@ -255,4 +255,23 @@ pub(crate) fn finished(alloc: Global, slot: Slot) -> Result<Column, NoMemory>
             Ok(column)
         }
     }
+}
+
+// ---- of some groups
+
+/// What is held for the groups at these indexes, in this order, where a column is held for each item. A column
+/// that was is let go before the next one is copied.
+pub(crate) fn columns_at(
+    alloc: Global,
+    columns: Vec<Column>,
+    indexes: &[usize],
+) -> Result<Vec<Slot>, NoMemory>
+    requires { All (λ c. All (λ at. at < length c.values) indexes.now) columns.items }
+    ensures { IfOk result (λ ss. ss.items ≡ map (column_at indexes.now) columns.items) }
+{
+    let mut slots = Vec::with_capacity(alloc, columns.len())?;
+    for column in columns {
+        slots.push(Slot::First(column.gather(alloc, indexes)?))?;
+    }
+    Ok(slots)
 }

@@ -1,14 +1,13 @@
-use Rattle.std.proofs.Common.{◌≡◌, List, length, map, take, drop, ap, sym, ◌∙◌, subst, arith}
-use Rattle.std.specs.List.{All, filter}
+use Rattle.std.proofs.Common.{◌≡◌, length, map, take, drop, ap, sym, ◌∙◌, subst, arith}
+use Rattle.std.specs.List.{All}
 use Rattle.std.proofs.lemmas.List.{length-map, length-append}
 use Rattle.pj_value.specs.Columns.{KindedValues}
 use Rattle.pj_expr.specs.declared.query.OrderKey.{OrderKey}
-use Rattle.pj_expr.specs.Eval.{holds}
 use Rattle.pj_group.specs.Indexes.{is_before}
 use Rattle.pj_group.specs.Lines.{column_over, keys_in_columns, lines_of, rows_in_columns, AreFirstLines}
 use Rattle.pj_group.specs.Standing.{all_items}
-use Rattle.pj_group.proofs.ArrangedLemmas.{answers-arranged}
-use Rattle.pj_group.proofs.HeldLemmas.{all_items-fit, columns-split, HoldsGroups-permutation}
+use Rattle.pj_group.proofs.FirstLineLemmas.{answers-held}
+use Rattle.pj_group.proofs.HeldLemmas.{all_items-fit, columns-split}
 use Rattle.pj_group.proofs.LineLemmas.{columns-lengths, rows_in_columns-lines}
 use Rattle.pj_group.proofs.groups.Groups.answer.Goals as goal
 
@@ -69,9 +68,8 @@ returns c = λ kinds seen fits st.
     let lines : c.in_ok-lines.lines ≡ lines_of kinds q.items groups =
     c.in_ok-lines.ensures ∙ (λ i. rows_in_columns (own i) (st.len i))
     ∙ rows_in_columns-lines kinds groups q.items in
-    let perm = HoldsGroups-permutation q (filter (holds q.filter) seen) c.args.self.form groups st.divided in
-    let before = λ (keys : List OrderKey) (columns : List KindedValues). is_before (keys_in_columns keys columns) in
-    answers-arranged q (record { kinds = kinds; rows = seen }) c.in_ok-out.out groups perm
+    answers-held q (record { kinds = kinds; rows = seen }) c.in_ok-out.out st.held_rows c.args.self.form groups
+    st.enough st.divided
     (subst (λ ls. AreFirstLines
     (is_before (keys_in_columns q.order (map (λ (key : OrderKey). column_over kinds groups key.item) q.order)))
     q.limit ls c.in_ok-out.out) lines

@@ -5,6 +5,7 @@ use Rattle.pj_expr.specs.declared.query.Item.{Item}
 use Rattle.pj_expr.specs.Fits.{FitsItem, FitsQuery, IsOfGroup}
 use Rattle.pj_group.specs.declared.forms.Form.TheVariants.{One}
 use Rattle.pj_group.specs.Standing.{IsSlot, HoldsGroups, groups_of_none}
+use Rattle.pj_group.proofs.FirstRowLemmas.{HoldsRows-none}
 use Rattle.pj_group.proofs.HeldLemmas.{All-of_map, AllZip-to_map, all_items-fit, all_items-literal}
 use Rattle.pj_group.proofs.groups.Groups.new.Goals as goal
 
@@ -37,6 +38,8 @@ returns c =
     let same : c.in_ok-none.none.kinds ≡ c.args.kinds.now =
     ap (λ (r : KindedRows). r.kinds) c.in_ok-none.ensures in
     record {
+      held_rows = [];
+      enough = HoldsRows-none c.args.kinds.now q;
       groups = groups;
       divided = c.form_of-form.ensures;
       len = c.len_of_none.ensures;

@@ -7,7 +7,7 @@ use Rattle.pj_expr.specs.Fits.{FitsItem}
 use Rattle.pj_answer.specs.Answers.{Row}
 use Rattle.pj_group.specs.Lines.{column_over}
 use Rattle.pj_group.specs.Standing.{IsSlot}
-use Rattle.pj_group.proofs.groups.all_finished.Given as goal
+use Rattle.pj_group.proofs.held.all_finished.Given as goal
 
 abbrev pub invariant-loop-slot : goal.invariant-loop-slot
 invariant-loop-slot l =

@@ -8,7 +8,7 @@ use Rattle.pj_group.specs.declared.slots.Slot.{Slot}
 use Rattle.pj_group.specs.Slots.{IsItemOf, IsOfItem}
 use Rattle.pj_group.specs.Standing.{IsSlot}
 use Rattle.pj_group.proofs.HeldLemmas.{AllZip-at, head-dropped, drop-dropped, front-same}
-use Rattle.pj_group.proofs.groups.add_to_all.Goals as goal
+use Rattle.pj_group.proofs.held.add_to_all.Goals as goal
 
 pub index_mut-requires : goal.index_mut-requires
 index_mut-requires c =

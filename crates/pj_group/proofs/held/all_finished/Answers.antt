@@ -5,7 +5,7 @@ use Rattle.std.specs.Vec.Iter.{into_iter_items}
 use Rattle.pj_group.specs.Lines.{column_over}
 use Rattle.pj_group.specs.Standing.{IsSlot}
 use Rattle.pj_group.proofs.HeldLemmas.{head-dropped, drop-dropped, finished-more}
-use Rattle.pj_group.proofs.groups.all_finished.Goals as goal
+use Rattle.pj_group.proofs.held.all_finished.Goals as goal
 
 pub loop-slot-init : goal.loop-slot-init
 loop-slot-init c =

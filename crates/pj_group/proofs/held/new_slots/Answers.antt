@@ -5,7 +5,7 @@ use Rattle.std.proofs.lemmas.Slice.Zip.{all_zipped_more}
 use Rattle.pj_expr.specs.declared.query.Item.{Item}
 use Rattle.pj_group.specs.declared.slots.Slot.{Slot}
 use Rattle.pj_group.specs.Standing.{IsSlot, groups_of_none}
-use Rattle.pj_group.proofs.groups.new_slots.Goals as goal
+use Rattle.pj_group.proofs.held.new_slots.Goals as goal
 
 pub loop-item-preserved : goal.loop-item-preserved
 loop-item-preserved c =

@@ -1,7 +1,7 @@
 use Rattle.std.proofs.Common.{take}
 use Rattle.std.specs.List.{AllZip}
 use Rattle.pj_group.specs.Standing.{IsSlot, groups_of_none}
-use Rattle.pj_group.proofs.groups.new_slots.Given as goal
+use Rattle.pj_group.proofs.held.new_slots.Given as goal
 
 abbrev pub invariant-loop-item : goal.invariant-loop-item
 invariant-loop-item l =

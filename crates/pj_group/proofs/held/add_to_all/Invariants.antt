@@ -5,7 +5,7 @@ use Rattle.pj_expr.specs.declared.query.Query.{Query}
 use Rattle.pj_answer.specs.Answers.{Row}
 use Rattle.pj_group.specs.Slots.{Grow, IsItemOf}
 use Rattle.pj_group.specs.Standing.{IsSlot}
-use Rattle.pj_group.proofs.groups.add_to_all.Given as goal
+use Rattle.pj_group.proofs.held.add_to_all.Given as goal
 
 abbrev pub invariant-loop-at : goal.invariant-loop-at
 invariant-loop-at l =

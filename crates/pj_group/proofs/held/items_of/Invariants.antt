@@ -1,6 +1,6 @@
 use Rattle.std.proofs.Common.{◌≡◌, ◌++◌, map, take}
 use Rattle.pj_expr.specs.declared.query.OrderKey.{OrderKey}
-use Rattle.pj_group.proofs.groups.items_of.Given as goal
+use Rattle.pj_group.proofs.held.items_of.Given as goal
 
 abbrev pub invariant-loop-item : goal.invariant-loop-item
 invariant-loop-item l = map (λ i. i.now) l.found.items ≡ take l.item-index l.item-items
