@@ -5,7 +5,7 @@
 #[cfg(test)]
 mod answers;
 #[cfg(test)]
-mod calls;
+mod blocks;
 #[cfg(test)]
 mod expressions;
 #[cfg(test)]

@@ -5,6 +5,8 @@
 #[cfg(test)]
 mod given;
 #[cfg(test)]
+mod lifted;
+#[cfg(test)]
 mod states;
 #[cfg(test)]
 mod transfers;

@@ -4,7 +4,7 @@ ghost use Rattle.std.specs.List.{All};
 ghost use Rattle.pj_value.specs.declared.value.Kind.{Kind};
 ghost use Rattle.pj_value.specs.declared.value.AggKind.{AggKind};
 ghost use Rattle.pj_value.specs.declared.value.AggKind.TheVariants as aggregates;
-ghost use Rattle.pj_agg.specs.AggStates.{IsOf};
+ghost use Rattle.pj_agg.specs.AggStates.{agg_of, IsOf};
 ghost use Rattle.pj_agg.specs.StateColumns.{Takes};
 
 use pj_agg::*;
@@ -49,7 +49,11 @@ fn falling<S: State>(alloc: Global, divisor: u64) -> Result<S, NoMemory>
 }
 
 /// Whether a state has these bytes.
-fn has_bytes<S: State>(alloc: Global, state: &S, wanted: &[u8]) -> Result<bool, NoMemory> {
+pub(crate) fn has_bytes<S: State>(
+    alloc: Global,
+    state: &S,
+    wanted: &[u8],
+) -> Result<bool, NoMemory> {
     let mut bytes = Vec::new(alloc);
     state.encode(&mut bytes)?;
     Ok(bytes.as_slice() == wanted)
@@ -103,15 +107,22 @@ fn numbers_have_bytes(
 /// Puts a text behind those that a state stands for.
 fn add_text(state: &mut AggState, alloc: Global, bytes: &[u8]) -> Result<(), NoMemory>
     requires { IsOf Kind.Text state.old }
-    ensures { IsOf Kind.Text state.new }
+    ensures kind { IsOf Kind.Text state.new }
+    ensures agg { agg_of state.new ≡ agg_of state.old }
 {
     let text = Text::new(alloc, bytes)?;
     state.add(alloc, Cell::Text(&text))
 }
 
 /// A state of these texts.
-fn state_of_texts(alloc: Global, agg: AggKind, texts: &[&[u8]]) -> Result<AggState, NoMemory>
+pub(crate) fn state_of_texts(
+    alloc: Global,
+    agg: AggKind,
+    texts: &[&[u8]],
+) -> Result<AggState, NoMemory>
     requires { Takes agg Kind.Text }
+    ensures kind { IfOk result (IsOf Kind.Text) }
+    ensures agg { IfOk result (λ s. agg_of s ≡ agg) }
 {
     let mut state = AggState::unit(alloc, agg, Kind::Text);
     'texts: for bytes in texts {
@@ -121,7 +132,11 @@ fn state_of_texts(alloc: Global, agg: AggKind, texts: &[&[u8]]) -> Result<AggSta
 }
 
 /// Whether a state by its aggregate has these bytes.
-fn is_written_as(alloc: Global, state: &AggState, wanted: &[u8]) -> Result<bool, NoMemory> {
+pub(crate) fn is_written_as(
+    alloc: Global,
+    state: &AggState,
+    wanted: &[u8],
+) -> Result<bool, NoMemory> {
     let mut bytes = Vec::new(alloc);
     state.encode(&mut bytes)?;
     Ok(bytes.as_slice() == wanted)
@@ -309,26 +324,84 @@ fn bytes_of_no_state_are_damaged(rt: HostRuntime) -> Result<(), Fail> {
     Ok(())
 }
 
+/// Whether a state of an aggregate of two lists of numbers is finished to this number.
+fn numbers_are_finished_to(
+    alloc: Global,
+    agg: AggKind,
+    left: &[u64],
+    right: &[u64],
+    wanted: u64,
+) -> Result<bool, NoMemory> {
+    match agg {
+        AggKind::Count => are_finished_to::<CountState>(alloc, left, right, wanted),
+        AggKind::Sum => are_finished_to::<SumState>(alloc, left, right, wanted),
+        AggKind::Min => are_finished_to::<MinState>(alloc, left, right, wanted),
+        AggKind::Max => are_finished_to::<MaxState>(alloc, left, right, wanted),
+        AggKind::UniqExact => are_finished_to::<UniqState>(alloc, left, right, wanted),
+    }
+}
+
+/// Two lists of numbers, and what the aggregate of both is.
+static JOINED: [(AggKind, &[u64], &[u64], u64); 8] = [
+    (AggKind::Count, &[5, 5], &[6], 3),
+    (AggKind::Sum, &[5, 1], &[18446744073709551615], 5),
+    (AggKind::Min, &[], &[9, 8], 8),
+    (AggKind::Min, &[7, 9], &[8], 7),
+    (AggKind::Max, &[9, 8], &[], 9),
+    (AggKind::Max, &[8], &[7, 258], 258),
+    (AggKind::Max, &[], &[], 0),
+    (AggKind::UniqExact, &[5, 1, 3], &[3, 4, 1], 4),
+];
+
 #[test]
 fn joined_states_stand_for_both_lists(rt: HostRuntime) -> Result<(), Fail> {
-    let alloc = rt.alloc();
-    let state: UniqState = joined(alloc, &[5, 1, 3], &[3, 4, 1])?;
-    assert!(rt; is_finished_to(alloc, &state, 4)?);
-    assert!(rt; has_bytes(alloc, &state, FOUR)?);
-    assert!(rt; are_finished_to::<SumState>(alloc, &[5, 1], &[18446744073709551615], 5)?);
-    assert!(rt; are_finished_to::<MinState>(alloc, &[], &[9, 8], 8)?);
+    for (agg, left, right, wanted) in &JOINED {
+        assert!(rt;
+            numbers_are_finished_to(rt.alloc(), *agg, left, right, *wanted)?,
+            "{agg:?} of {left:?} and {right:?}"
+        );
+    }
     Ok(())
+}
+
+/// Whether the distinct ones of two lists of numbers have these bytes.
+fn distinct_have_bytes(
+    alloc: Global,
+    left: &[u64],
+    right: &[u64],
+    wanted: &[u8],
+) -> Result<bool, NoMemory> {
+    let state: UniqState = joined(alloc, left, right)?;
+    has_bytes(alloc, &state, wanted)
+}
+
+#[test]
+fn what_both_lists_have_stands_once(rt: HostRuntime) -> Result<(), Fail> {
+    assert!(rt; distinct_have_bytes(rt.alloc(), &[5, 1, 3], &[3, 4, 1], FOUR)?);
+    Ok(())
+}
+
+/// Whether there are so many distinct ones of the numbers below 10,000, each divided by the same.
+fn falling_are(alloc: Global, divisor: u64, wanted: u64) -> Result<bool, NoMemory>
+    requires { 0 < divisor }
+{
+    let state: UniqState = falling(alloc, divisor)?;
+    is_finished_to(alloc, &state, wanted)
+}
+
+/// Whether there are so many distinct ones of their halves and of the numbers themselves.
+fn joined_falling_are(alloc: Global, wanted: u64) -> Result<bool, NoMemory> {
+    let mut halves: UniqState = falling(alloc, 2)?;
+    let whole: UniqState = falling(alloc, 1)?;
+    halves.join(alloc, &whole)?;
+    is_finished_to(alloc, &halves, wanted)
 }
 
 #[test]
 fn many_falling_values_are_counted_once_each(rt: HostRuntime) -> Result<(), Fail> {
-    let alloc = rt.alloc();
-    let state: UniqState = falling(alloc, 1)?;
-    assert!(rt; is_finished_to(alloc, &state, 10_000)?);
-    let mut halves: UniqState = falling(alloc, 2)?;
-    assert!(rt; is_finished_to(alloc, &halves, 5_000)?);
-    halves.join(alloc, &state)?;
-    assert!(rt; is_finished_to(alloc, &halves, 10_000)?);
+    assert!(rt; falling_are(rt.alloc(), 1, 10_000)?);
+    assert!(rt; falling_are(rt.alloc(), 2, 5_000)?);
+    assert!(rt; joined_falling_are(rt.alloc(), 10_000)?);
     Ok(())
 }
 
@@ -351,21 +424,21 @@ fn aggregates(
     column.finish(alloc)
 }
 
-/// Whether a column has these numbers.
+/// Whether a column has these numbers. One of texts has none.
 fn has_numbers(column: &Column, wanted: &[u64]) -> bool {
     match column.numbers() {
         Some(numbers) => numbers == wanted,
-        None => false,
+        None => wanted.is_empty(),
     }
 }
 
-/// Whether a column has these texts.
+/// Whether a column has these texts. One of numbers has none.
 fn has_texts(column: &Column, wanted: &[&[u8]]) -> bool {
     match column.texts() {
         Some(texts) => {
             texts.len() == wanted.len() && texts.iter().zip(wanted).all(|(t, w)| t.as_slice() == *w)
         }
-        None => false,
+        None => wanted.is_empty(),
     }
 }
 
@@ -390,59 +463,87 @@ fn push_text(texts: &mut Vec<Text>, alloc: Global, bytes: &[u8]) -> Result<(), N
     Ok(())
 }
 
-/// The groups of five numbers, of four groups.
-static GROUPS_OF_NUMBERS: [usize; 5] = [0, 2, 0, 0, 2];
+/// Whether an aggregate gives these numbers of 7, 1, 4, 7 and 2 in groups.
+fn numbers_by_group_are(alloc: Global, agg: AggKind, wanted: &[u64]) -> Result<bool, NoMemory> {
+    let numbers = Vec::from_slice(alloc, &[7, 1, 4, 7, 2])?;
+    let values = Column::from_numbers(numbers);
+    let found = aggregates(alloc, agg, 4, &[0, 2, 0, 0, 2], &values)?;
+    Ok(has_numbers(&found, wanted))
+}
 
-/// What each aggregate gives of 7, 1, 4, 7 and 2 in their groups.
-static NUMBERS_BY_GROUP: [(AggKind, [u64; 4]); 5] = [
-    (AggKind::Count, [6, 0, 4, 0]),
-    (AggKind::Sum, [36, 0, 6, 0]),
-    (AggKind::Min, [4, 0, 1, 0]),
-    (AggKind::Max, [7, 0, 2, 0]),
-    (AggKind::UniqExact, [2, 0, 2, 0]),
+/// What each aggregate gives of them.
+static NUMBERS_BY_GROUP: [(AggKind, &[u64]); 5] = [
+    (AggKind::Count, &[6, 0, 4, 0]),
+    (AggKind::Sum, &[36, 0, 6, 0]),
+    (AggKind::Min, &[4, 0, 1, 0]),
+    (AggKind::Max, &[7, 0, 2, 0]),
+    (AggKind::UniqExact, &[2, 0, 2, 0]),
 ];
 
 #[test]
 fn numbers_are_added_to_their_groups(rt: HostRuntime) -> Result<(), Fail> {
-    let alloc = rt.alloc();
-    let numbers = Vec::from_slice(alloc, &[7, 1, 4, 7, 2])?;
-    let values = Column::from_numbers(numbers);
-    let groups = [0usize, 2, 0, 0, 2];
     for (agg, wanted) in &NUMBERS_BY_GROUP {
-        let found = aggregates(alloc, *agg, 4, groups.as_slice(), &values)?;
-        assert!(rt; has_numbers(&found, wanted.as_slice()), "{agg:?}");
+        assert!(rt; numbers_by_group_are(rt.alloc(), *agg, wanted)?, "{agg:?}");
     }
     Ok(())
 }
 
+/// Five texts.
+const TEXTS: [&[u8]; 5] = [b"ab", b"b", b"", b"ab", b"a text of more than 23 bytes"];
+
+/// Whether an aggregate gives these numbers, or these texts, of the five texts in groups. There is none of a sum.
+fn texts_by_group_are(
+    alloc: Global,
+    agg: AggKind,
+    numbers: &[u64],
+    texts: &[&[u8]],
+) -> Result<bool, NoMemory> {
+    match agg {
+        AggKind::Sum => Ok(false),
+        _ => {
+            let values = column_of(alloc, &TEXTS)?;
+            let found = aggregates(alloc, agg, 3, &[1, 1, 0, 1, 1], &values)?;
+            Ok(has_numbers(&found, numbers) && has_texts(&found, texts))
+        }
+    }
+}
+
+/// What aggregates give of them.
+static TEXTS_BY_GROUP: [(AggKind, &[u64], &[&[u8]]); 4] = [
+    (AggKind::Count, &[2, 8, 0], &[]),
+    (AggKind::UniqExact, &[1, 3, 0], &[]),
+    (
+        AggKind::Min,
+        &[],
+        &[b"", b"a text of more than 23 bytes", b""],
+    ),
+    (AggKind::Max, &[], &[b"", b"b", b""]),
+];
+
 #[test]
 fn texts_are_added_to_their_groups(rt: HostRuntime) -> Result<(), Fail> {
-    let alloc = rt.alloc();
-    let values = column_of(
-        alloc,
-        &[b"ab", b"b", b"", b"ab", b"a text of more than 23 bytes"],
-    )?;
-    let groups = [1usize, 1, 0, 1, 1];
-    let found = aggregates(alloc, AggKind::Count, 3, groups.as_slice(), &values)?;
-    assert!(rt; has_numbers(&found, &[2, 8, 0]));
-    let found = aggregates(alloc, AggKind::UniqExact, 3, groups.as_slice(), &values)?;
-    assert!(rt; has_numbers(&found, &[1, 3, 0]));
-    let found = aggregates(alloc, AggKind::Min, 3, groups.as_slice(), &values)?;
-    assert!(rt; has_texts(&found, &[b"", b"a text of more than 23 bytes", b""]));
-    let found = aggregates(alloc, AggKind::Max, 3, groups.as_slice(), &values)?;
-    assert!(rt; has_texts(&found, &[b"", b"b", b""]));
+    for (agg, numbers, texts) in &TEXTS_BY_GROUP {
+        assert!(rt;
+            texts_by_group_are(rt.alloc(), *agg, numbers, texts)?,
+            "{agg:?}"
+        );
+    }
     Ok(())
 }
 
-#[test]
-fn rows_are_counted_in_their_groups(rt: HostRuntime) -> Result<(), Fail> {
-    let alloc = rt.alloc();
+/// Whether five rows that are counted in three groups give these numbers.
+fn counts_are(alloc: Global, wanted: &[u64]) -> Result<bool, NoMemory> {
     let mut column = StateColumn::new(alloc, AggKind::Count, Kind::Num);
     column.grow(alloc, 2)?;
     column.count(&[1, 0, 1]);
     column.grow(alloc, 3)?;
     column.count(&[1, 2]);
-    assert_eq!(rt; column.len(), 3);
-    assert!(rt; has_numbers(&column.finish(alloc)?, &[1, 3, 1]));
+    let found = column.finish(alloc)?;
+    Ok(column.len() == 3 && has_numbers(&found, wanted))
+}
+
+#[test]
+fn rows_are_counted_in_their_groups(rt: HostRuntime) -> Result<(), Fail> {
+    assert!(rt; counts_are(rt.alloc(), &[1, 3, 1])?);
     Ok(())
 }

@@ -1,5 +1,5 @@
 use Rattle.pj_value.specs.declared.value.Kind.TheVariants as kinds
 use Rattle.values_tests.proofs.states.add_text.Goals as goal
 
-pub returns : goal.returns
-returns c = c.add.ensures.kind kinds.Text c.requires
+pub returns-clause-kind : goal.returns-clause-kind
+returns-clause-kind c = c.add.ensures.kind kinds.Text c.requires
