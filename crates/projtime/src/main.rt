@@ -3,6 +3,7 @@
 #![tactic(auto)]
 
 mod evaluation;
+mod granules;
 mod layer;
 mod reading;
 
@@ -32,6 +33,13 @@ fn main(rt: HostRuntime) -> anyhow::Result<()> {
             rows.tell(&rt)?;
             Ok(())
         }
+        Some("layout") => {
+            let granules = granules::timed(&rt, rt.alloc())?;
+            granules.loops.tell(&rt)?;
+            granules.numbers.tell(&rt)?;
+            granules.texts.tell(&rt)?;
+            Ok(())
+        }
         _ => usage(&rt),
     }
 }
@@ -42,6 +50,6 @@ fn second_word<R: Env + AllocGlobal>(rt: &R) -> io::Result<Option<String>> {
 }
 
 fn usage<R: Print>(rt: &R) -> anyhow::Result<()> {
-    println!(rt; "usage: projtime read < script, or projtime eval")?;
+    println!(rt; "usage: projtime read < script, projtime eval, or projtime layout")?;
     Ok(())
 }

@@ -1,0 +1,4 @@
+pub mod Living
+pub mod Keys
+pub mod Written
+pub mod Faults

@@ -1,0 +1,10 @@
+pub mod ByteLemmas
+pub mod NumberLemmas
+pub mod RisingLemmas
+pub mod EndLemmas
+pub mod CutLemmas
+pub mod KindLemmas
+pub mod ReadingLemmas
+pub mod DamageLemmas
+pub mod ChunkLemmas
+pub mod MarkLemmas

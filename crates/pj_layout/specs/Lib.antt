@@ -1,0 +1,5 @@
+pub mod Granules
+pub mod Blobs
+pub mod Damage
+pub mod Reading
+pub mod GranuleLaws

@@ -1,0 +1,5 @@
+pub mod Names
+pub mod Laid
+pub mod Formed
+pub mod Agreement
+pub mod Laws

@@ -1,0 +1,4 @@
+pub mod GranuleLemmas
+pub mod SpanLemmas
+pub mod ColumnLemmas
+pub mod RowLemmas
