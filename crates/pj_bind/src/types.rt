@@ -28,6 +28,25 @@ pub enum LimitName {
     History,
 }
 
+/// A part's name: the blocks that it covers, from the first to the last, its level, and the number of its
+/// last mutation, or 0.
+#[derive(Clone, Copy, Debug, PartialEq, Eq)]
+pub struct PartName {
+    pub min: u64,
+    pub max: u64,
+    pub level: u64,
+    pub field: u64,
+}
+
+/// Which piece of a part.
+#[derive(Clone, Copy, Debug, PartialEq, Eq)]
+pub enum SourceName {
+    /// Its rows.
+    Base,
+    /// Which of them are masked.
+    Mask,
+}
+
 /// Why a statement has no other reply.
 #[derive(Debug, Drop)]
 pub enum Refusal {
@@ -51,6 +70,17 @@ pub enum Refusal {
     NotAnAggregate,
     /// This form of statement isn't built yet.
     NotBuilt,
+    /// The port failed to keep or to read bytes. No body is refused so: the statement binds, and has moved.
+    StoreFault,
+    /// The bytes that were read of a granule of this column are none, from this offset of the granule on. No
+    /// body is refused so, and no statement where blobs tell their bytes.
+    Damaged {
+        part: PartName,
+        source: SourceName,
+        column: usize,
+        granule: usize,
+        at: u64,
+    },
     /// Out of memory.
     NoMemory,
 }

@@ -5,7 +5,7 @@ use Rattle.std.proofs.Common.{arith, length-append}
 use Rattle.std.specs.Prelude.{◌==◌, ◌⊎◌, slice_get, Contains}
 use Rattle.std.specs.List.{AllByRecursion, flat_map}
 use Rattle.std.specs.Fmt.{decimal}
-use Rattle.std.proofs.lemmas.Bool.{cond_both}
+use Rattle.std.proofs.lemmas.Bool.{cond_both, cases_Bool}
 use Rattle.std.proofs.lemmas.Option.{none-some, same_Some, slice_get-get_or}
 use Rattle.pj_expr.specs.declared.query.Query.{Query}
 use Rattle.pj_answer.specs.Answers.{item_kind}
@@ -30,7 +30,7 @@ use Rattle.pj_legal.specs.Shares.{Takes, Went}
 use Rattle.pj_legal.specs.Legal.{IsLegal}
 use Rattle.pj_legal.specs.Texts.{name_at, announced, following, reply_text, replies_text, as_line}
 use Rattle.pj_legal.specs.Laws.{IsPlain}
-use Rattle.pj_legal.specs.FixedReplies.{IsClean, HaveOneShape, FitsReply, TextFixesReplies}
+use Rattle.pj_legal.specs.FixedReplies.{IsClean, HaveOneShape, HaveOneShapes, FitsReply, TextFixesReplies}
 use Rattle.pj_legal.proofs.BodyLaws.{BodyBinds-one, one_meaning}
 use Rattle.pj_legal.proofs.LegalNames.{slice_get_push}
 use Rattle.pj_legal.proofs.histories.ListLemmas.{All-append}
@@ -199,44 +199,45 @@ In-one low high x y (s ∷ ss) all (inr a) (inl b) same =
 In-one low high x y (s ∷ ss) all (inr a) (inr b) same = In-one s.line high x y ss all.3 a b same
 
 -- the statement of a reply, with its form
-pub record IsAsked (mine : List Move) (requests : List Request) (shown : Shown) : Type 0 where
+pub record IsAsked (told : Bool) (mine : List Move) (requests : List Request) (shown : Shown) : Type 0 where
   pub request : Request
   pub is : In request requests
   pub at : request.shown ≡ Some shown.line
-  pub form : Form request (record { moves = for_line request.line mine; reply = Some shown.reply })
+  pub form : Form told request (record { moves = for_line request.line mine; reply = Some shown.reply })
 
-IsAsked-later : (mine : List Move) (s : Request) (requests : List Request) (shown : Shown)
-    → IsAsked mine requests shown
-    → IsAsked mine (s ∷ requests) shown
-IsAsked-later mine s requests shown asked =
+IsAsked-later : (told : Bool) (mine : List Move) (s : Request) (requests : List Request) (shown : Shown)
+    → IsAsked told mine requests shown
+    → IsAsked told mine (s ∷ requests) shown
+IsAsked-later told mine s requests shown asked =
     record { request = asked.request; is = inr asked.is; at = asked.at; form = asked.form }
 
-AllAsked-later : (mine : List Move) (s : Request) (requests : List Request) (rs : List Shown)
-    → AllByRecursion (IsAsked mine requests) rs → AllByRecursion (IsAsked mine (s ∷ requests)) rs
-AllAsked-later mine s requests [] all = tt
-AllAsked-later mine s requests (r ∷ rs) all =
-    (IsAsked-later mine s requests r all.0, AllAsked-later mine s requests rs all.1)
+AllAsked-later : (told : Bool) (mine : List Move) (s : Request) (requests : List Request) (rs : List Shown)
+    → AllByRecursion (IsAsked told mine requests) rs → AllByRecursion (IsAsked told mine (s ∷ requests)) rs
+AllAsked-later told mine s requests [] all = tt
+AllAsked-later told mine s requests (r ∷ rs) all =
+    (IsAsked-later told mine s requests r all.0, AllAsked-later told mine s requests rs all.1)
 
-Takes-asked : (o : Option ℕ) (mine : List Move) (request : Request) (requests : List Request)
+Takes-asked : (told : Bool) (o : Option ℕ) (mine : List Move) (request : Request) (requests : List Request)
     (rs : List Shown)
     → request.shown ≡ o
-    → ((more : List Shown) → Went Form mine requests more → AllByRecursion (IsAsked mine requests) more)
-    → Takes o (λ reply. Form request (record { moves = for_line request.line mine; reply = reply }))
-    (Went Form mine requests) rs
-    → AllByRecursion (IsAsked mine (request ∷ requests)) rs
-Takes-asked None mine request requests rs is rest takes = AllAsked-later mine request requests rs
-    (rest rs takes.1)
-Takes-asked (Some line) mine request requests [] is rest takes = absurd takes
-Takes-asked (Some line) mine request requests (r ∷ rs) is rest takes = (
+    → ((more : List Shown) → Went (Form told) mine requests more
+    → AllByRecursion (IsAsked told mine requests) more)
+    → Takes o (λ reply. Form told request (record { moves = for_line request.line mine; reply = reply }))
+    (Went (Form told) mine requests) rs
+    → AllByRecursion (IsAsked told mine (request ∷ requests)) rs
+Takes-asked told None mine request requests rs is rest takes =
+    AllAsked-later told mine request requests rs (rest rs takes.1)
+Takes-asked told (Some line) mine request requests [] is rest takes = absurd takes
+Takes-asked told (Some line) mine request requests (r ∷ rs) is rest takes = (
   record { request = request; is = inl refl; at = is ∙ ap Some (sym takes.0); form = takes.1 },
-  AllAsked-later mine request requests rs (rest rs takes.2),
+  AllAsked-later told mine request requests rs (rest rs takes.2),
 )
 
-Went-asked : (mine : List Move) (requests : List Request) (rs : List Shown) → Went Form mine requests rs
-    → AllByRecursion (IsAsked mine requests) rs
-Went-asked mine [] rs went = subst (AllByRecursion (IsAsked mine [])) (sym went) tt
-Went-asked mine (request ∷ requests) rs went =
-    Takes-asked request.shown mine request requests rs refl (Went-asked mine requests) went
+Went-asked : (told : Bool) (mine : List Move) (requests : List Request) (rs : List Shown)
+    → Went (Form told) mine requests rs → AllByRecursion (IsAsked told mine requests) rs
+Went-asked told mine [] rs went = subst (AllByRecursion (IsAsked told mine [])) (sym went) tt
+Went-asked told mine (request ∷ requests) rs went =
+    Takes-asked told request.shown mine request requests rs refl (Went-asked told mine requests) went
 
 -- ---- the kinds of a reply's columns
 
@@ -249,22 +250,24 @@ pub record AreOfSelect (request : Request) (ms : List Move) (out : KindedRows) :
   pub moves : ms ≡ move_of request place (Looked table) ∷ []
   pub kinds : out.kinds ≡ map (item_kind (table_rows place table).kinds) query.items
 
-of_bound : (request : Request) (place : List Entry) (bound : Bound) (went : Course) (out : KindedRows)
+of_bound : (told : Bool) → told ≡ true → (request : Request) (place : List Entry) (bound : Bound)
+    (went : Course) (out : KindedRows)
     → went.reply ≡ Some (replies.Rows out) → BodyBinds (catalog place) request.body bound
-    → BoundForm place request bound went → AreOfSelect request went.moves out
-of_bound request place (bounds.Create table) went out is binds form =
+    → BoundForm told place request bound went → AreOfSelect request went.moves out
+of_bound told tells request place (bounds.Create table) went out is binds form =
     let same : Some replies.Done ≡ Some (replies.Rows out) = sym form.1 ∙ is in
     absurd (done_rows out (same_Some _ _ same))
   where
     done_rows : (out : KindedRows) → replies.Done ≡ replies.Rows out → ⊥
     done_rows out same = cc
-of_bound request place (bounds.Insert table rows) went out is binds form =
+of_bound told tells request place (bounds.Insert table rows) went out is binds form =
     let same : Some replies.Done ≡ Some (replies.Rows out) = sym form.3 ∙ is in
     absurd (done_rows out (same_Some _ _ same))
   where
     done_rows : (out : KindedRows) → replies.Done ≡ replies.Rows out → ⊥
     done_rows out same = cc
-of_bound request place (bounds.Select table query) went out is binds (answer, right, moves, reply) =
+of_bound told tells request place (bounds.Select table query) went out is binds form =
+    let (answer, right, moves, reply) = form in
     let same : answer ≡ out = rows_are answer out (same_Some _ _ (sym reply ∙ is)) in
     record {
       place = place;
@@ -272,7 +275,7 @@ of_bound request place (bounds.Select table query) went out is binds (answer, ri
       query = query;
       binds = binds;
       moves = moves;
-      kinds = ap (λ (o : KindedRows). o.kinds) (sym same) ∙ right.kinds;
+      kinds = ap (λ (o : KindedRows). o.kinds) (sym same) ∙ (right tells).kinds;
     }
   where
     rows_are : (a b : KindedRows) → replies.Rows a ≡ replies.Rows b → a ≡ b
@@ -281,17 +284,21 @@ of_bound request place (bounds.Select table query) went out is binds (answer, ri
 refused_rows : (refusal : _) (out : KindedRows) → replies.Refused refusal ≡ replies.Rows out → ⊥
 refused_rows refusal out same = cc
 
-of_form : (request : Request) (went : Course) (out : KindedRows) → went.reply ≡ Some (replies.Rows out)
-    → Form request went → AreOfSelect request went.moves out
-of_form request went out is (inl refused) =
+of_form : (told : Bool) → told ≡ true → (request : Request) (went : Course) (out : KindedRows)
+    → went.reply ≡ Some (replies.Rows out) → Form told request went → AreOfSelect request went.moves out
+of_form told tells request went out is (inl refused) =
     absurd (refused_rows refused.refusal out (same_Some _ _ (sym refused.reply ∙ is)))
-of_form request went out is (inr (inl done)) =
-    of_bound request done.place done.bound went out is done.binds done.form
-of_form request went out is (inr (inr (inl starved))) =
+of_form told tells request went out is (inr (inl done)) =
+    of_bound told tells request done.place done.bound went out is done.binds done.form
+of_form told tells request went out is (inr (inr (inl starved))) =
     absurd (refused_rows _ out (same_Some _ _ (sym starved.reply ∙ is)))
-of_form request went out is (inr (inr (inr (inl shut)))) =
+of_form told tells request went out is (inr (inr (inr (inl shut)))) =
     absurd (refused_rows _ out (same_Some _ _ (sym shut.reply ∙ is)))
-of_form request went out is (inr (inr (inr (inr left)))) =
+of_form told tells request went out is (inr (inr (inr (inr (inl faulted))))) =
+    absurd (refused_rows _ out (same_Some _ _ (sym faulted.reply ∙ is)))
+of_form told tells request went out is (inr (inr (inr (inr (inr (inl damaged)))))) =
+    absurd (refused_rows _ out (same_Some _ _ (sym damaged.reply ∙ is)))
+of_form told tells request went out is (inr (inr (inr (inr (inr (inr left)))))) =
     absurd (none-some (replies.Rows out) (sym left.reply ∙ is))
 
 -- the place of the first of some moves
@@ -317,19 +324,19 @@ kinds_are request ms out other a b =
     ∙ (λ i. map (item_kind (table_rows (places i) (tables i)).kinds) (queries i).items)
     ∙ sym b.kinds
 
--- two replies to one statement have one shape
-shapes_are : (request : Request) (ms : List Move) (r s : Reply)
-    → Form request (record { moves = ms; reply = Some r }) → Form request
-    (record { moves = ms; reply = Some s })
+-- two replies to one statement have one shape, where blobs tell their bytes
+shapes_are : (told : Bool) → told ≡ true → (request : Request) (ms : List Move) (r s : Reply)
+    → Form told request (record { moves = ms; reply = Some r })
+    → Form told request (record { moves = ms; reply = Some s })
     → HaveOneShape r s
-shapes_are request ms (replies.Rows out) (replies.Rows other) a b =
+shapes_are told tells request ms (replies.Rows out) (replies.Rows other) a b =
     kinds_are request ms out other
-    (of_form request (record { moves = ms; reply = Some (replies.Rows out) }) out refl a)
-    (of_form request (record { moves = ms; reply = Some (replies.Rows other) }) other refl b)
-shapes_are request ms replies.Done s a b = tt
-shapes_are request ms (replies.Refused refusal) s a b = tt
-shapes_are request ms (replies.Rows out) replies.Done a b = tt
-shapes_are request ms (replies.Rows out) (replies.Refused refusal) a b = tt
+    (of_form told tells request (record { moves = ms; reply = Some (replies.Rows out) }) out refl a)
+    (of_form told tells request (record { moves = ms; reply = Some (replies.Rows other) }) other refl b)
+shapes_are told tells request ms replies.Done s a b = tt
+shapes_are told tells request ms (replies.Refused refusal) s a b = tt
+shapes_are told tells request ms (replies.Rows out) replies.Done a b = tt
+shapes_are told tells request ms (replies.Rows out) (replies.Refused refusal) a b = tt
 
 -- ---- all of it
 
@@ -339,34 +346,34 @@ clean_from (replies.Rows out) plain fits = fits
 clean_from (replies.Refused refusal) plain fits = (plain, fits)
 
 -- what is known of each reply of a legal list
-pub record IsKnown (script : Script) (h : List Entry) (shown : Shown) : Type 0 where
+pub record IsKnown (told : Bool) (script : Script) (h : List Entry) (shown : Shown) : Type 0 where
   pub heard : shown.session < length script.names
   pub asked :
-      IsAsked (moves_by (Session shown.session) h) (requests_by shown.session (statements script)) shown
+      IsAsked told (moves_by (Session shown.session) h) (requests_by shown.session (statements script)) shown
   pub clean : IsClean shown.reply
 
-AllKnown : (script : Script) (h : List Entry) (rs : List Shown)
+AllKnown : (told : Bool) (script : Script) (h : List Entry) (rs : List Shown)
     → AllByRecursion (λ shown. shown.session < length script.names) rs
-    → AllByRecursion (λ shown. IsAsked (moves_by (Session shown.session) h)
+    → AllByRecursion (λ shown. IsAsked told (moves_by (Session shown.session) h)
     (requests_by shown.session (statements script)) shown) rs
     → AllByRecursion (λ shown. IsPlain shown.reply) rs → AllByRecursion (λ shown. FitsReply shown.reply) rs
-    → AllByRecursion (IsKnown script h) rs
-AllKnown script h [] heard asked plain fits = tt
-AllKnown script h (r ∷ rs) heard asked plain fits = (
+    → AllByRecursion (IsKnown told script h) rs
+AllKnown told script h [] heard asked plain fits = tt
+AllKnown told script h (r ∷ rs) heard asked plain fits = (
   record { heard = heard.0; asked = asked.0; clean = clean_from r.reply plain.0 fits.0 },
-  AllKnown script h rs heard.1 asked.1 plain.1 fits.1,
+  AllKnown told script h rs heard.1 asked.1 plain.1 fits.1,
 )
 
-known_from : (script : Script) (h : List Entry) (rs : List Shown) → IsLegal script h rs
-    → AllByRecursion (λ shown. FitsReply shown.reply) rs → AllByRecursion (IsKnown script h) rs
-known_from script h rs legal fits =
-    AllKnown script h rs legal.heard
+known_from : (told : Bool) (script : Script) (h : List Entry) (rs : List Shown) → IsLegal told script h rs
+    → AllByRecursion (λ shown. FitsReply shown.reply) rs → AllByRecursion (IsKnown told script h) rs
+known_from told script h rs legal fits =
+    AllKnown told script h rs legal.heard
     (All-sessions
-    (λ session. IsAsked (moves_by (Session session) h) (requests_by session (statements script)))
+    (λ session. IsAsked told (moves_by (Session session) h) (requests_by session (statements script)))
     (length script.names) rs legal.heard
-    (λ session there. Went-asked (moves_by (Session session) h) (requests_by session (statements script))
+    (λ session there. Went-asked told (moves_by (Session session) h) (requests_by session (statements script))
     (shown_to session rs) (legal.sessions session there).answered))
-    (IsLegal-plain script h rs legal) fits
+    (IsLegal-plain told script h rs legal) fits
 
 reply_text-some : (line : ℕ) (name : List ℕ) (reply : Reply) (more : List ℕ)
     → [] ≡ reply_text line name reply ++ more → ⊥
@@ -389,7 +396,7 @@ IsName-at [] i all there = absurd (omega arith)
 IsName-at (n ∷ names) zero all there = all.0
 IsName-at (n ∷ names) (suc i) all there = IsName-at names i all.1 (omega (arith, there))
 
-module _ (script : Script) (h : List Entry) (names : AreNames script.names) (high : ℕ)
+module _ (told : Bool) (script : Script) (h : List Entry) (names : AreNames script.names) (high : ℕ)
     (order : AreInOrder 0 high (statements script)) (small : high ≤ 2 ^ 32) where
   -- sessions of one name are one
   one_session : (i j : ℕ) → i < length script.names → j < length script.names
@@ -399,22 +406,23 @@ module _ (script : Script) (h : List Entry) (names : AreNames script.names) (hig
       (slice_get-get_or script.names j [] too ∙ ap Some (sym same))
 
   -- the line of a known reply is one of 32 bits
-  small_line : (r : Shown) → IsKnown script h r → r.line < 2 ^ 32
+  small_line : (r : Shown) → IsKnown told script h r → r.line < 2 ^ 32
   small_line r known =
       let facts = In-facts 0 high known.asked.request (requests_by r.session (statements script))
       (AreInOrder-requests_by 0 high r.session (statements script) order) known.asked.is in
       let line : known.asked.request.line ≡ r.line = same_Some _ _ (sym facts.2 ∙ known.asked.at) in
       omega (arith, facts.1, line, small)
 
-  -- known replies at one line to one session have one shape
-  one_shape : (r s : Shown) → IsKnown script h r → IsKnown script h s → r.line ≡ s.line
-      → r.session ≡ s.session → HaveOneShape r.reply s.reply
-  one_shape r s a b lines sessions =
+  -- known replies at one line to one session have one shape, where blobs tell their bytes
+  one_shape : told ≡ true → (r s : Shown) → IsKnown told script h r → IsKnown told script h s
+      → r.line ≡ s.line → r.session ≡ s.session → HaveOneShape r.reply s.reply
+  one_shape tells r s a b lines sessions =
       let mine : List Move = moves_by (Session s.session) h in
       let requests : List Request = requests_by s.session (statements script) in
       let in_order = AreInOrder-requests_by 0 high s.session (statements script) order in
-      let moved : IsAsked mine requests r =
-      subst (λ i. IsAsked (moves_by (Session i) h) (requests_by i (statements script)) r) sessions a.asked in
+      let moved : IsAsked told mine requests r =
+      subst (λ i. IsAsked told (moves_by (Session i) h) (requests_by i (statements script)) r) sessions
+      a.asked in
       let facts = In-facts 0 high moved.request requests in_order moved.is in
       let too = In-facts 0 high b.asked.request requests in_order b.asked.is in
       let line : moved.request.line ≡ r.line = same_Some _ _ (sym facts.2 ∙ moved.at) in
@@ -422,21 +430,22 @@ module _ (script : Script) (h : List Entry) (names : AreNames script.names) (hig
       let same : moved.request ≡ b.asked.request =
       In-one 0 high moved.request b.asked.request requests in_order moved.is b.asked.is (line ∙ lines
       ∙ sym other) in
-      shapes_are b.asked.request (for_line b.asked.request.line mine) r.reply s.reply
-      (subst (λ (x : Request). Form x (record { moves = for_line x.line mine; reply = Some r.reply })) same
-      moved.form) b.asked.form
+      shapes_are told tells b.asked.request (for_line b.asked.request.line mine) r.reply s.reply
+      (subst (λ (x : Request). Form told x (record { moves = for_line x.line mine; reply = Some r.reply }))
+      same moved.form) b.asked.form
 
   -- so the text fixes them, one by one
-  fixed : (a b : List Shown) → AllByRecursion (IsKnown script h) a → AllByRecursion (IsKnown script h) b
+  fixed : (a b : List Shown) → AllByRecursion (IsKnown told script h) a
+      → AllByRecursion (IsKnown told script h) b → (told ≡ false → HaveOneShapes a b)
       → replies_text script.names a ≡ replies_text script.names b → a ≡ b
-  fixed [] [] known too same = refl
-  fixed [] (s ∷ ss) known too same =
+  fixed [] [] known too shapes same = refl
+  fixed [] (s ∷ ss) known too shapes same =
       absurd (reply_text-some s.line (name_at script.names s.session) s.reply (replies_text script.names ss)
       same)
-  fixed (r ∷ rs) [] known too same =
+  fixed (r ∷ rs) [] known too shapes same =
       absurd (reply_text-some r.line (name_at script.names r.session) r.reply (replies_text script.names rs)
       (sym same))
-  fixed (r ∷ rs) (s ∷ ss) known too same =
+  fixed (r ∷ rs) (s ∷ ss) known too shapes same =
       let first = IsName-at script.names r.session names.0 known.0.heard in
       let other = IsName-at script.names s.session names.0 too.0.heard in
       let few = small_line r known.0 in
@@ -447,21 +456,25 @@ module _ (script : Script) (h : List Entry) (names : AreNames script.names) (hig
       in
       let sessions : r.session ≡ s.session =
       one_session r.session s.session known.0.heard too.0.heard asked.1 in
+      let shape : HaveOneShape r.reply s.reply = elim (cases_Bool told) [
+        | inl tells ↦ one_shape tells r s known.0 too.0 asked.0 sessions
+        | inr untold ↦ (shapes untold).0
+      ] in
       let all = reply_text-read r.line s.line (name_at script.names r.session)
       (name_at script.names s.session)
       r.reply s.reply (replies_text script.names rs) (replies_text script.names ss) few many first other
-      known.0.clean too.0.clean (one_shape r s known.0 too.0 asked.0 sessions) same in
-      let rest : rs ≡ ss = fixed rs ss known.1 too.1 all.3 in
+      known.0.clean too.0.clean shape same in
+      let rest : rs ≡ ss = fixed rs ss known.1 too.1 (λ untold. (shapes untold).1) all.3 in
       (λ i. record { line = asked.0 i; session = sessions i; reply = all.2 i } ∷ rest i)
 
 pub text_fixes_replies : TextFixesReplies
-text_fixes_replies mode bytes script h a b few spelled legal other fits too same =
+text_fixes_replies told mode bytes script h a b few spelled legal other shapes fits too same =
     let high : ℕ = 1 + length (pieces bytes) in
-    fixed script h
+    fixed told script h
     (AreNames-lines mode 1 [] (pieces bytes) script.lines script.names spelled
     (tt, (λ i j name here there. absurd (none-some name here))))
     high
     (AreInOrder-statements 0 high script.lines
     (AreBetween-lines mode 0 1 [] (pieces bytes) script.lines script.names (omega arith) spelled))
     (omega (arith, few, length-pieces bytes))
-    a b (known_from script h a legal fits) (known_from script h b other too) same
+    a b (known_from told script h a legal fits) (known_from told script h b other too) shapes same

@@ -88,11 +88,12 @@ AreOn-of request [] all = tt
 AreOn-of request (e ∷ es) all = (ap (λ x. x.line) all.0, AreOn-of request es all.1)
 
 -- the moves of a statement that ran are its own
-AreOf-ran : (limit : ℕ) (place : List Entry) (request : Request) (added : List Entry) (reply : Reply)
-    → IsStep limit place request added reply → AreOf request added
-AreOf-ran limit place request added reply ran =
+AreOf-ran : (told : Bool) (limit : ℕ) (place : List Entry) (request : Request) (added : List Entry)
+    (reply : Reply)
+    → IsStep told limit place request added reply → AreOf request added
+AreOf-ran told limit place request added reply ran =
     subst (AreOf request) (entries-moves_from place added)
-    (MovesAreOf-form request (course place added reply) ran.form)
+    (MovesAreOf-form told request (course place added reply) ran.form)
 
 -- those of a session's statement are by the session
 AreBy-of : (request : Request) (session : ℕ) (es : List Entry) → (request.session == session) ≡ true
@@ -207,22 +208,23 @@ owned-append request requests place added new session of rest =
         (sym (filter-not_by (Session session) place added (AreNotBy-of request session added other of))) tt)
 
 -- the first statement of a run: its entries, and where its reply is shown
-record FirstStep (limit : ℕ) (place : List Entry) (request : Request) (requests : List Request)
+record FirstStep (told : Bool) (limit : ℕ) (place : List Entry) (request : Request) (requests : List Request)
     (shown : Shown)
     (more : List Shown) (h : List Entry) : Type 0 where
   added : List Entry
-  ran : IsStep limit place request added shown.reply
-  others : Run limit (place ++ added) requests more h
+  ran : IsStep told limit place request added shown.reply
+  others : Run told limit (place ++ added) requests more h
   of : AreOf request added
   on : AreOn request.line added
   at : shown.line ≡ request.line
   to : shown.session ≡ request.session
 
-first_step : (limit : ℕ) (place : List Entry) (request : Request) (requests : List Request) (shown : Shown)
-    (more : List Shown) (h : List Entry) → Run limit place (request ∷ requests) (shown ∷ more) h
-    → FirstStep limit place request requests shown more h
-first_step limit place request requests shown more h (is, (added, ran, others)) =
-    let of : AreOf request added = AreOf-ran limit place request added shown.reply ran in
+first_step : (told : Bool) (limit : ℕ) (place : List Entry) (request : Request) (requests : List Request)
+    (shown : Shown) (more : List Shown) (h : List Entry)
+    → Run told limit place (request ∷ requests) (shown ∷ more) h
+    → FirstStep told limit place request requests shown more h
+first_step told limit place request requests shown more h (is, (added, ran, others)) =
+    let of : AreOf request added = AreOf-ran told limit place request added shown.reply ran in
     record {
       added = added;
       ran = ran;
@@ -234,11 +236,11 @@ first_step limit place request requests shown more h (is, (added, ran, others)) 
     }
 
 -- a run adds moves of its statements, line by line
-pub HasAdded-run : (limit low : ℕ) (place : List Entry) (requests : List Request) (replies : List Shown)
-    (h : List Entry)
-    → Rise low (request_lines requests) → Run limit place requests replies h
+pub HasAdded-run : (told : Bool) (limit low : ℕ) (place : List Entry) (requests : List Request)
+    (replies : List Shown) (h : List Entry)
+    → Rise low (request_lines requests) → Run told limit place requests replies h
     → HasAdded low place requests replies h
-HasAdded-run limit low place [] [] h rise run = record {
+HasAdded-run told limit low place [] [] h rise run = record {
   new = [];
   grown = run ∙ sym (append-nil place);
   behind = tt;
@@ -250,13 +252,13 @@ HasAdded-run limit low place [] [] h rise run = record {
   heard = λ count within. tt;
   owned = λ session. tt;
 }
-HasAdded-run limit low place [] (shown ∷ more) h rise run = absurd run
-HasAdded-run limit low place (request ∷ requests) [] h rise run = absurd run
-HasAdded-run limit low place (request ∷ requests) (shown ∷ more) h rise run =
-    joined (HasAdded-run limit request.line (place ++ step.added) requests more h rise.1 step.others)
+HasAdded-run told limit low place [] (shown ∷ more) h rise run = absurd run
+HasAdded-run told limit low place (request ∷ requests) [] h rise run = absurd run
+HasAdded-run told limit low place (request ∷ requests) (shown ∷ more) h rise run =
+    joined (HasAdded-run told limit request.line (place ++ step.added) requests more h rise.1 step.others)
   where
-    step : FirstStep limit place request requests shown more h
-    step = first_step limit place request requests shown more h run
+    step : FirstStep told limit place request requests shown more h
+    step = first_step told limit place request requests shown more h run
 
     joined : HasAdded request.line (place ++ step.added) requests more h
         → HasAdded low place (request ∷ requests) (shown ∷ more) h
@@ -289,12 +291,12 @@ HasAdded-run limit low place (request ∷ requests) (shown ∷ more) h rise run 
 -- ---- each statement of a run
 
 -- a relation holds of each statement that a run of these is of, by its moves and its reply
-abbrev pub Goes : ℕ → (Request → Course → Type 0) → List Entry → Type 0
-Goes limit so h =
+abbrev pub Goes : Bool → ℕ → (Request → Course → Type 0) → List Entry → Type 0
+Goes told limit so h =
     (place : List Entry) (request : Request) (added new : List Entry) (reply : Reply) → request.shown
     ≡ Some request.line
     → h ≡ (place ++ added) ++ new → AreUpTo request.line (place ++ added) → AreBehind request.line new
-    → IsStep limit place request added reply → so request (course place added reply)
+    → IsStep told limit place request added reply → so request (course place added reply)
 
 Went-step : (so : Request → Course → Type 0) (mine : List Move) (request : Request)
     (requests : List Request) (shown : Shown)
@@ -312,16 +314,16 @@ Went-step so mine request requests shown replies false true same whole at goes r
 Went-step so mine request requests shown replies false false same whole at goes rest = rest
 
 -- then it holds of those of each session
-pub Went-run : (limit : ℕ) (so : Request → Course → Type 0) (low : ℕ) (place : List Entry)
+pub Went-run : (told : Bool) (limit : ℕ) (so : Request → Course → Type 0) (low : ℕ) (place : List Entry)
     (requests : List Request)
     (replies : List Shown) (h : List Entry) (session : ℕ)
-    → Goes limit so h → AreWhole requests → AreUpTo low place → Rise low (request_lines requests)
-    → Run limit place requests replies h
+    → Goes told limit so h → AreWhole requests → AreUpTo low place → Rise low (request_lines requests)
+    → Run told limit place requests replies h
     → Went so (moves_by (Session session) h) (requests_by session requests) (shown_to session replies)
-Went-run limit so low place [] [] h session goes whole below rise run = refl
-Went-run limit so low place [] (shown ∷ more) h session goes whole below rise run = absurd run
-Went-run limit so low place (request ∷ requests) [] h session goes whole below rise run = absurd run
-Went-run limit so low place (request ∷ requests) (shown ∷ more) h session goes whole below rise run =
+Went-run told limit so low place [] [] h session goes whole below rise run = refl
+Went-run told limit so low place [] (shown ∷ more) h session goes whole below rise run = absurd run
+Went-run told limit so low place (request ∷ requests) [] h session goes whole below rise run = absurd run
+Went-run told limit so low place (request ∷ requests) (shown ∷ more) h session goes whole below rise run =
     Went-step so (moves_by (Session session) h) request (requests_by session requests) shown
     (shown_to session more)
     (request.session == session) (shown.session == session)
@@ -332,21 +334,21 @@ Went-run limit so low place (request ∷ requests) (shown ∷ more) h session go
     (AreBy-of request session step.added same step.of)
     (AreOff-behind request.line rest.new rest.behind) rest.grown))
     (goes place request step.added rest.new shown.reply whole.0 rest.grown upto rest.behind step.ran))
-    (Went-run limit so request.line (place ++ step.added) requests more h session goes whole.1 upto rise.1
-    step.others)
+    (Went-run told limit so request.line (place ++ step.added) requests more h session goes whole.1 upto
+    rise.1 step.others)
   where
-    step : FirstStep limit place request requests shown more h
-    step = first_step limit place request requests shown more h run
+    step : FirstStep told limit place request requests shown more h
+    step = first_step told limit place request requests shown more h run
 
     upto : AreUpTo request.line (place ++ step.added)
     upto = AreUpTo-append low request.line place step.added (omega (arith, rise.0)) below step.on
 
     rest : HasAdded request.line (place ++ step.added) requests more h
-    rest = HasAdded-run limit request.line (place ++ step.added) requests more h rise.1 step.others
+    rest = HasAdded-run told limit request.line (place ++ step.added) requests more h rise.1 step.others
 
 -- each has its form
-Goes-form : (limit : ℕ) (h : List Entry) → Goes limit Form h
-Goes-form limit h place request added new reply whole grown upto behind ran = ran.form
+Goes-form : (told : Bool) (limit : ℕ) (h : List Entry) → Goes told limit (Form told) h
+Goes-form told limit h place request added new reply whole grown upto behind ran = ran.form
 
 -- the line of a whole statement's next move
 next_line-whole : (request : Request) (ms : List Move) → request.shown ≡ Some request.line
@@ -369,11 +371,11 @@ none-left [] none = refl
 none-left (e ∷ es) none = absurd (omega (arith, none))
 
 -- and tells whether the journal was full
-Goes-full : (limit : ℕ) (all : List Request) (h : List Entry) → AreWhole all → length h ≤ limit
-    → Goes limit (TellsFull limit all h) h
-Goes-full limit all h are within place request added new reply whole grown upto behind ran = record {
-  only = λ told.
-      let full : length place + length added ≡ limit = ran.full (same_Some reply history_full told) in
+Goes-full : (told : Bool) (limit : ℕ) (all : List Request) (h : List Entry) → AreWhole all → length h ≤ limit
+    → Goes told limit (TellsFull limit all h) h
+Goes-full told limit all h are within place request added new reply whole grown upto behind ran = record {
+  only = λ fills.
+      let full : length place + length added ≡ limit = ran.full (same_Some reply history_full fills) in
       let none : length new ≡ 0 = omega (arith, sizes, full, within) in
       let same : h ≡ place ++ added =
       grown ∙ ap (λ (es : List Entry). (place ++ added) ++ es) (none-left new none)
@@ -420,11 +422,11 @@ statements-within count [] named = tt
 statements-within count (l ∷ ls) named = (named.0, statements-within count ls named.1)
 
 -- a run of a script's statements from nothing on
-pub IsPlayed-run : (limit : ℕ) (script : Script) (replies : List Shown) (h : List Entry)
+pub IsPlayed-run : (told : Bool) (limit : ℕ) (script : Script) (replies : List Shown) (h : List Entry)
     → Rise 0 (request_lines (statements script)) → AreNamed script
-    → Run limit [] (statements script) replies h → IsRegular h → length h ≤ limit
-    → IsPlayed script h replies × KeepsLimit limit script h replies
-IsPlayed-run limit script replies h rise named run regular within = (played, keeps)
+    → Run told limit [] (statements script) replies h → IsRegular h → length h ≤ limit
+    → IsPlayed told script h replies × KeepsLimit limit script h replies
+IsPlayed-run told limit script replies h rise named run regular within = (played, keeps)
   where
     requests : List Request
     requests = statements script
@@ -436,7 +438,7 @@ IsPlayed-run limit script replies h rise named run regular within = (played, kee
     inside = statements-within (length script.names) script.lines named
 
     added : HasAdded 0 [] requests replies h
-    added = HasAdded-run limit 0 [] requests replies h rise run
+    added = HasAdded-run told limit 0 [] requests replies h rise run
 
     same : added.new ≡ h
     same = sym added.grown
@@ -444,13 +446,16 @@ IsPlayed-run limit script replies h rise named run regular within = (played, kee
     never : NeverFall 0 (lines h)
     never = subst (λ (es : List Entry). NeverFall 0 (lines es)) same added.order
 
-    share : (session : ℕ) → SessionShare session (requests_by session requests) h (shown_to session replies)
+    share : (session : ℕ)
+        → SessionShare told session (requests_by session requests) h (shown_to session replies)
     share session = record {
       owned =
           subst (λ (es : List Entry). AllByRecursion (IsFor (requests_by session requests))
           (filter (moved_by (Session session)) (moves_from [] es))) same (added.owned session);
       order = NeverFall-filter 0 (Session session) [] h never;
-      answered = Went-run limit Form 0 [] requests replies h session (Goes-form limit h) whole tt rise run;
+      answered =
+          Went-run told limit (Form told) 0 [] requests replies h session (Goes-form told limit h) whole tt
+          rise run;
     }
 
     no_moves : (worker : ℕ) → moves_by (Worker worker) h ≡ []
@@ -464,7 +469,7 @@ IsPlayed-run limit script replies h rise named run regular within = (played, kee
       order = subst (λ (ms : List Move). Rise 0 (lines_of ms)) (sym (no_moves worker)) tt;
     }
 
-    played : IsPlayed script h replies
+    played : IsPlayed told script h replies
     played = record {
       legal = record {
         regular = regular;
@@ -484,8 +489,8 @@ IsPlayed-run limit script replies h rise named run regular within = (played, kee
     keeps = record {
       within = within;
       tells = λ session there.
-          Went-run limit (TellsFull limit requests h) 0 [] requests replies h session
-          (Goes-full limit requests h whole within) whole tt rise run;
+          Went-run told limit (TellsFull limit requests h) 0 [] requests replies h session
+          (Goes-full told limit requests h whole within) whole tt rise run;
     }
 
 -- the lines of the first statements rise too
@@ -506,34 +511,35 @@ statements-cut : (n : ℕ) (script : Script) → statements (cut n script) ≡ t
 statements-cut n script = sym (take-map statement_of n script.lines)
 
 -- a run of a script's first statements
-pub IsPlayed-cut : (limit n : ℕ) (script : Script) (replies : List Shown) (h : List Entry)
+pub IsPlayed-cut : (told : Bool) (limit n : ℕ) (script : Script) (replies : List Shown) (h : List Entry)
     → Rise 0 (request_lines (statements script)) → AreNamed script
-    → Run limit [] (take n (statements script)) replies h → IsRegular h → length h ≤ limit
-    → IsPlayed (cut n script) h replies × KeepsLimit limit (cut n script) h replies
-IsPlayed-cut limit n script replies h rise named run regular within =
+    → Run told limit [] (take n (statements script)) replies h → IsRegular h → length h ≤ limit
+    → IsPlayed told (cut n script) h replies × KeepsLimit limit (cut n script) h replies
+IsPlayed-cut told limit n script replies h rise named run regular within =
     let same : take n (statements script) ≡ statements (cut n script) = sym (statements-cut n script) in
-    IsPlayed-run limit (cut n script) replies h
+    IsPlayed-run told limit (cut n script) replies h
     (subst (λ (ss : List Request). Rise 0 (request_lines ss)) same (Rise-take n 0 (statements script) rise))
     (AreNamed-take n (length script.names) script.lines named)
-    (subst (λ (ss : List Request). Run limit [] ss replies h) same run)
+    (subst (λ (ss : List Request). Run told limit [] ss replies h) same run)
     regular within
 
 -- one more statement
-pub Run-push : (limit : ℕ) (place : List Entry) (requests : List Request) (replies : List Shown)
+pub Run-push : (told : Bool) (limit : ℕ) (place : List Entry) (requests : List Request) (replies : List Shown)
     (mid : List Entry)
     (request : Request) (added : List Entry) (reply : Reply)
-    → Run limit place requests replies mid → IsStep limit mid request added reply
-    → Run limit place (requests ++ request ∷ []) (replies ++ shown_at request reply ∷ []) (mid ++ added)
-Run-push limit place [] [] mid request added reply run ran =
-    (refl, (added, subst (λ from. IsStep limit from request added reply) run ran, ap (λ es. es ++ added) run))
-Run-push limit place [] (r ∷ more) mid request added reply run ran = absurd run
-Run-push limit place (s ∷ requests) [] mid request added reply run ran = absurd run
-Run-push limit place (s ∷ requests) (r ∷ more) mid request added reply run ran = (
+    → Run told limit place requests replies mid → IsStep told limit mid request added reply
+    → Run told limit place (requests ++ request ∷ []) (replies ++ shown_at request reply ∷ []) (mid ++ added)
+Run-push told limit place [] [] mid request added reply run ran =
+    let step = subst (λ from. IsStep told limit from request added reply) run ran in
+    (refl, (added, step, ap (λ es. es ++ added) run))
+Run-push told limit place [] (r ∷ more) mid request added reply run ran = absurd run
+Run-push told limit place (s ∷ requests) [] mid request added reply run ran = absurd run
+Run-push told limit place (s ∷ requests) (r ∷ more) mid request added reply run ran = (
   run.0,
   (
     run.1.0,
     run.1.1,
-    Run-push limit (place ++ run.1.0) requests more mid request added reply
+    Run-push told limit (place ++ run.1.0) requests more mid request added reply
         run.1.2 ran,
   ),
 )

@@ -1,6 +1,6 @@
 -- The text of a reply fixes the reply, where the kinds of its columns are known; and so that of all replies
 -- fixes them (docs/FORMATS.md).
-use Rattle.std.specs.Prelude.{◌≡◌, ℕ, ◌<◌, ◌^◌, List, ◌++◌, length}
+use Rattle.std.specs.Prelude.{◌≡◌, ℕ, ◌<◌, ◌^◌, Bool, false, List, ◌∷◌, ◌++◌, length}
 use Rattle.std.specs.List.{AllByRecursion}
 use Rattle.pj_value.specs.declared.value.Value.{Value}
 use Rattle.pj_value.specs.declared.value.Value.TheVariants as values
@@ -27,7 +27,7 @@ pub record AreCleanRows (out : KindedRows) : Type 0 where
   pub kinded : HaveKinds out.kinds out.rows
   pub values : AllByRecursion (λ row. AllByRecursion IsCleanValue row) out.rows
 
--- the rows are clean, and a refusal gives no name with a line feed and no offset from 2 ^ 64 on
+-- the rows are clean, and a refusal gives no name with a line feed and no number from 2 ^ 64 on
 abbrev pub IsClean : Reply → Type 0
 IsClean replies.Done = Unit {0}
 IsClean (replies.Rows out) = AreCleanRows out
@@ -38,6 +38,12 @@ abbrev pub HaveOneShape : Reply → Reply → Type 0
 HaveOneShape (replies.Rows out) (replies.Rows other) = out.kinds ≡ other.kinds
 HaveOneShape reply other = Unit {0}
 
+-- so have the replies of two lists, one by one, as far as both go
+abbrev pub HaveOneShapes : List Shown → List Shown → Type 0
+HaveOneShapes (shown ∷ more) (other ∷ others) =
+    HaveOneShape shown.reply other.reply × HaveOneShapes more others
+HaveOneShapes replies others = Unit {0}
+
 -- a text that begins with a reply fixes its line, its name, the reply, and the text behind it, where the
 -- kinds of its columns are known
 abbrev pub TextFixesReply : Type 0
@@ -47,17 +53,18 @@ TextFixesReply =
     → reply_text l a r ++ more ≡ reply_text m b s ++ others
     → (l ≡ m) × (a ≡ b) × (r ≡ s) × (more ≡ others)
 
--- the reply is one of the machine: its rows are clean, or a refusal gives no offset from 2 ^ 64 on
+-- the reply is one of the machine: its rows are clean, or a refusal gives no number from 2 ^ 64 on
 abbrev pub FitsReply : Reply → Type 0
 FitsReply replies.Done = Unit {0}
 FitsReply (replies.Rows out) = AreCleanRows out
 FitsReply (replies.Refused refusal) = HasSmallOffset refusal
 
--- among the replies that are legal for a script and a history, their text fixes them
+-- among the replies that are legal for a script and a history, their text fixes them; where blobs don't tell
+-- their bytes, the kinds of the columns must be known otherwise
 abbrev pub TextFixesReplies : Type 0
 TextFixesReplies =
-    (mode : ScriptMode) (bytes : List ℕ) (script : Script) (h : List Entry) (a b : List Shown)
+    (told : Bool) (mode : ScriptMode) (bytes : List ℕ) (script : Script) (h : List Entry) (a b : List Shown)
     → length bytes < 2 ^ 31 → IsScript mode bytes script
-    → IsLegal script h a → IsLegal script h b
+    → IsLegal told script h a → IsLegal told script h b → (told ≡ false → HaveOneShapes a b)
     → AllByRecursion (λ shown. FitsReply shown.reply) a → AllByRecursion (λ shown. FitsReply shown.reply) b
     → replies_text script.names a ≡ replies_text script.names b → a ≡ b

@@ -1,6 +1,6 @@
 -- Shares are joined to a legal history (docs/MODEL.md, "Shares"). On this law threads will stand, each of
 -- which knows a prefix of the history.
-use Rattle.std.specs.Prelude.{◌≡◌, ℕ, ◌<◌, false, List, ◌++◌, length}
+use Rattle.std.specs.Prelude.{◌≡◌, ℕ, ◌<◌, Bool, false, List, ◌++◌, length}
 use Rattle.std.specs.List.{AllByRecursion}
 use Rattle.pj_script.specs.declared.types.Script.{Script}
 use Rattle.pj_journal.specs.declared.entry.Actor.{Actor}
@@ -19,9 +19,9 @@ AreNotBy actor es = AllByRecursion (λ entry. is_by actor entry ≡ false) es
 -- a session's share holds in each longer history that has no further entry of it
 abbrev pub SessionSharesGoOn : Type 0
 SessionSharesGoOn =
-    (session : ℕ) (requests : List Request) (h more : List Entry) (replies : List Shown)
-    → AreNotBy (Session session) more → SessionShare session requests h replies
-    → SessionShare session requests (h ++ more) replies
+    (told : Bool) (session : ℕ) (requests : List Request) (h more : List Entry) (replies : List Shown)
+    → AreNotBy (Session session) more → SessionShare told session requests h replies
+    → SessionShare told session requests (h ++ more) replies
 
 -- and so does a worker's
 abbrev pub WorkerSharesGoOn : Type 0
@@ -40,12 +40,12 @@ pub record HoldsInPrefix (actor : Actor) (h : List Entry) (share : List Entry �
 -- a regular history of a script's sessions and of workers is legal where each has its share in such a prefix
 abbrev pub SharesAreLegal : Type 0
 SharesAreLegal =
-    (script : Script) (h : List Entry) (replies : List Shown)
+    (told : Bool) (script : Script) (h : List Entry) (replies : List Shown)
     → IsRegular h → AllByRecursion (λ entry. IsActor (length script.names) entry.actor) h
     → AllByRecursion (λ shown. shown.session < length script.names) replies
     → ((session : ℕ) → session < length script.names
-    → HoldsInPrefix (Session session) h (λ seen. SessionShare session (requests_by session
+    → HoldsInPrefix (Session session) h (λ seen. SessionShare told session (requests_by session
     (statements script))
     seen (shown_to session replies)))
     → ((worker : ℕ) → HoldsInPrefix (Worker worker) h (λ seen. WorkerShare worker seen))
-    → IsLegal script h replies
+    → IsLegal told script h replies

@@ -1,5 +1,5 @@
 -- Laws over the definitions of this crate, each shown by a function of its own (src/laws.rt).
-use Rattle.std.specs.Prelude.{◌≡◌, ℕ, ◌<◌, ◌≤◌, ◌^◌, ◌⊎◌, List, [], ◌∷◌, ◌++◌, length, map}
+use Rattle.std.specs.Prelude.{◌≡◌, ℕ, ◌<◌, ◌≤◌, ◌^◌, ◌⊎◌, Bool, true, List, [], ◌∷◌, ◌++◌, length, map}
 use Rattle.std.specs.Prelude.{take, Contains}
 use Rattle.std.specs.List.{AllByRecursion}
 use Rattle.std.specs.Fmt.{decimal}
@@ -18,6 +18,9 @@ use Rattle.pj_bind.specs.declared.types.LimitName.TheVariants.{History}
 use Rattle.pj_bind.specs.declared.types.Refusal.{Refusal}
 use Rattle.pj_bind.specs.declared.types.Refusal.TheVariants.{Syntax, Limit, UnknownTable, TableExists}
 use Rattle.pj_bind.specs.declared.types.Refusal.TheVariants.{DuplicateColumn, UnknownIdentifier}
+use Rattle.pj_bind.specs.declared.types.Refusal.TheVariants.{StoreFault, Damaged}
+use Rattle.pj_bind.specs.declared.types.PartName.{PartName}
+use Rattle.pj_bind.specs.declared.types.SourceName.{SourceName}
 use Rattle.pj_bind.specs.Laws.{HasUniqueNames}
 use Rattle.pj_legal.specs.Statements.{Request, statements, Shown}
 use Rattle.pj_legal.specs.Shares.{Rise}
@@ -38,26 +41,26 @@ AreNamed script = AllByRecursion (λ line. line.name < length script.names) scri
 -- a run of a script's statements from nothing on is one of a single thread, and keeps the limit
 abbrev pub RunsAreLegal : Type 0
 RunsAreLegal =
-    (limit : ℕ) (script : Script) (replies : List Shown) (h : List Entry)
+    (told : Bool) (limit : ℕ) (script : Script) (replies : List Shown) (h : List Entry)
     → Rise 0 (request_lines (statements script)) → AreNamed script
-    → Run limit [] (statements script) replies h → IsRegular h → length h ≤ limit
-    → IsPlayed script h replies × KeepsLimit limit script h replies
+    → Run told limit [] (statements script) replies h → IsRegular h → length h ≤ limit
+    → IsPlayed told script h replies × KeepsLimit limit script h replies
 
 -- a run of a script's first statements is one of the script that has no other lines
 abbrev pub CutRunsAreLegal : Type 0
 CutRunsAreLegal =
-    (limit n : ℕ) (script : Script) (replies : List Shown) (h : List Entry)
+    (told : Bool) (limit n : ℕ) (script : Script) (replies : List Shown) (h : List Entry)
     → Rise 0 (request_lines (statements script)) → AreNamed script
-    → Run limit [] (take n (statements script)) replies h → IsRegular h → length h ≤ limit
-    → IsPlayed (cut n script) h replies × KeepsLimit limit (cut n script) h replies
+    → Run told limit [] (take n (statements script)) replies h → IsRegular h → length h ≤ limit
+    → IsPlayed told (cut n script) h replies × KeepsLimit limit (cut n script) h replies
 
 -- a run goes on by one more statement, from where it ended
 abbrev pub RunGoesOn : Type 0
 RunGoesOn =
-    (limit : ℕ) (place : List Entry) (requests : List Request) (replies : List Shown) (mid : List Entry)
-    (request : Request) (added : List Entry) (reply : Reply)
-    → Run limit place requests replies mid → IsStep limit mid request added reply
-    → Run limit place (requests ++ request ∷ []) (replies ++ shown_at request reply ∷ []) (mid ++ added)
+    (told : Bool) (limit : ℕ) (place : List Entry) (requests : List Request) (replies : List Shown)
+    (mid : List Entry) (request : Request) (added : List Entry) (reply : Reply)
+    → Run told limit place requests replies mid → IsStep told limit mid request added reply
+    → Run told limit place (requests ++ request ∷ []) (replies ++ shown_at request reply ∷ []) (mid ++ added)
 
 -- the text of one more reply stands behind those of the others
 abbrev pub TextsGoOn : Type 0
@@ -116,6 +119,14 @@ OneBodyRefusal =
 abbrev pub HistoryRefusesNoBody : Type 0
 HistoryRefusesNoBody = (tables : List Table) (body : List ℕ) → IsBodyRefusal tables body (Limit History) → ⊥
 
+-- nor for what befell a port: that it failed, or that a granule is damaged
+abbrev pub PortRefusesNoBody : Type 0
+PortRefusesNoBody =
+    (tables : List Table) (body : List ℕ)
+    → (IsBodyRefusal tables body StoreFault → ⊥)
+    × ((part : PartName) (source : SourceName) (column granule at : ℕ)
+    → IsBodyRefusal tables body (Damaged part source column granule at) → ⊥)
+
 -- numbers of one text in decimal are one
 abbrev pub TextsTellNumbers : Type 0
 TextsTellNumbers = (m n : ℕ) → m < 2 ^ 64 → n < 2 ^ 64 → decimal m ≡ decimal n → m ≡ n
@@ -140,8 +151,19 @@ IsPlain reply = Unit {0}
 -- no name that a legal reply gives has a line feed
 abbrev pub LegalRepliesArePlain : Type 0
 LegalRepliesArePlain =
-    (script : Script) (h : List Entry) (replies : List Shown) → IsLegal script h replies
+    (told : Bool) (script : Script) (h : List Entry) (replies : List Shown) → IsLegal told script h replies
     → AllByRecursion (λ shown. IsPlain shown.reply) replies
+
+-- it tells of no damaged granule
+abbrev pub TellsNoDamage : Reply → Type 0
+TellsNoDamage (replies.Refused (Damaged part source column granule at)) = ⊥
+TellsNoDamage reply = Unit {0}
+
+-- where blobs tell their bytes, no legal reply tells of a damaged granule
+abbrev pub NoDamageWhereTold : Type 0
+NoDamageWhereTold =
+    (script : Script) (h : List Entry) (replies : List Shown) → IsLegal true script h replies
+    → AllByRecursion (λ shown. TellsNoDamage shown.reply) replies
 
 -- from a text that begins with a reply its line and its name can be read, and what it announces where its
 -- names have no line feed
@@ -152,9 +174,18 @@ RepliesAreToldApart =
     → reply_text l a r ++ more ≡ reply_text m b s ++ others
     → (l ≡ m) × (a ≡ b) × (IsPlain r → IsPlain s → announced r ≡ announced s)
 
--- the offset that a refusal gives, if any, is below 2 ^ 64
+-- the numbers that a part's name gives are below 2 ^ 64
+pub record IsSmallName (part : PartName) : Type 0 where
+  pub min : part.min < 2 ^ 64
+  pub max : part.max < 2 ^ 64
+  pub level : part.level < 2 ^ 64
+  pub field : part.field < 2 ^ 64
+
+-- the offset and the other numbers that a refusal gives, if any, are below 2 ^ 64
 abbrev pub HasSmallOffset : Refusal → Type 0
 HasSmallOffset (Syntax at) = at < 2 ^ 64
+HasSmallOffset (Damaged part source column granule at) =
+    IsSmallName part × (column < 2 ^ 64) × (granule < 2 ^ 64) × (at < 2 ^ 64)
 HasSmallOffset refusal = Unit {0}
 
 -- both are done, have as many rows (below 2 ^ 64), or are refused in the same way

@@ -1,5 +1,6 @@
--- Legal histories (docs/MODEL.md, "Legal histories").
-use Rattle.std.specs.Prelude.{ℕ, ◌<◌, ◌==◌, List, length, map, if◌then◌else◌}
+-- Legal histories (docs/MODEL.md, "Legal histories"). `told` is whether the blobs of the port tell their
+-- bytes.
+use Rattle.std.specs.Prelude.{ℕ, ◌<◌, ◌==◌, Bool, List, length, map, if◌then◌else◌}
 use Rattle.std.specs.Option.{option_and_then, unwrap_or}
 use Rattle.std.specs.List.{AllByRecursion, find}
 use Rattle.pj_script.specs.declared.types.Script.{Script}
@@ -17,13 +18,13 @@ IsActor count (Session session) = session < count
 IsActor count (Worker worker) = Unit {0}
 
 -- the history is one of the script, with these replies to its statements
-pub record IsLegal (script : Script) (h : List Entry) (replies : List Shown) : Type 0 where
+pub record IsLegal (told : Bool) (script : Script) (h : List Entry) (replies : List Shown) : Type 0 where
   pub regular : IsRegular h
   pub actors : AllByRecursion (λ entry. IsActor (length script.names) entry.actor) h
   pub heard : AllByRecursion (λ shown. shown.session < length script.names) replies
   pub sessions :
       (session : ℕ) → session < length script.names
-      → SessionShare session (requests_by session (statements script)) h (shown_to session replies)
+      → SessionShare told session (requests_by session (statements script)) h (shown_to session replies)
   pub workers : (worker : ℕ) → WorkerShare worker h
 
 -- the line that shows the reply to the statement of a line, and that line itself where none does
@@ -49,8 +50,8 @@ IsSession (Session session) = Unit {0}
 IsSession (Worker worker) = ⊥
 
 -- the history is legal and that of a single thread, which ran the lines of the script in their order
-pub record IsPlayed (script : Script) (h : List Entry) (replies : List Shown) : Type 0 where
-  pub legal : IsLegal script h replies
+pub record IsPlayed (told : Bool) (script : Script) (h : List Entry) (replies : List Shown) : Type 0 where
+  pub legal : IsLegal told script h replies
   pub alone : AllByRecursion (λ entry. IsSession entry.actor) h
   pub order : NeverFall 0 (lines_run (statements script) h)
   pub shown : Rise 0 (map (λ shown. shown.line) replies)

@@ -1,5 +1,5 @@
 -- Whole statements one after the other, as one thread runs them. A run is legal (`runs_are_legal`).
-use Rattle.std.specs.Prelude.{◌≡◌, ℕ, ◌+◌, List, [], ◌∷◌, ◌++◌, Some, length, take}
+use Rattle.std.specs.Prelude.{◌≡◌, ℕ, ◌+◌, Bool, List, [], ◌∷◌, ◌++◌, Some, length, take}
 use Rattle.pj_script.specs.declared.types.Script.{Script}
 use Rattle.pj_journal.specs.declared.entry.Entry.{Entry}
 use Rattle.pj_journal.specs.Moves.{moves_from}
@@ -13,9 +13,10 @@ abbrev pub course : List Entry → List Entry → Reply → Course
 course place added reply = record { moves = moves_from place added; reply = Some reply }
 
 -- the statement ran from its place: it added these entries, and got this reply
-pub record IsStep (limit : ℕ) (place : List Entry) (request : Request) (added : List Entry) (reply : Reply)
+pub record IsStep (told : Bool) (limit : ℕ) (place : List Entry) (request : Request) (added : List Entry)
+    (reply : Reply)
     : Type 0 where
-  pub form : Form request (course place added reply)
+  pub form : Form told request (course place added reply)
   pub full : reply ≡ history_full → length place + length added ≡ limit
   pub always : length place + length added ≡ limit → HasNext (moves_from place added) → reply ≡ history_full
 
@@ -24,14 +25,14 @@ abbrev pub shown_at : Request → Reply → Shown
 shown_at request reply = record { line = request.line; session = request.session; reply = reply }
 
 -- the statements lead from one history to the other, each with its reply
-abbrev pub Run : ℕ → List Entry → List Request → List Shown → List Entry → Type 0
-Run limit place [] [] end = end ≡ place
-Run limit place [] (shown ∷ more) end = ⊥
-Run limit place (request ∷ requests) [] end = ⊥
-Run limit place (request ∷ requests) (shown ∷ more) end =
+abbrev pub Run : Bool → ℕ → List Entry → List Request → List Shown → List Entry → Type 0
+Run told limit place [] [] end = end ≡ place
+Run told limit place [] (shown ∷ more) end = ⊥
+Run told limit place (request ∷ requests) [] end = ⊥
+Run told limit place (request ∷ requests) (shown ∷ more) end =
     (shown ≡ shown_at request shown.reply)
-    × ((added : List Entry) × IsStep limit place request added shown.reply
-    × Run limit (place ++ added) requests more end)
+    × ((added : List Entry) × IsStep told limit place request added shown.reply
+    × Run told limit (place ++ added) requests more end)
 
 -- the script with its first lines alone
 abbrev pub cut : ℕ → Script → Script

@@ -1,6 +1,6 @@
 -- The shares of an actor: what a history and the replies say of one session, or of one worker (docs/MODEL.md,
 -- "Shares").
-use Rattle.std.specs.Prelude.{◌≡◌, ℕ, ◌<◌, ◌≤◌, List, [], ◌∷◌, Option, Some, None, map, Contains}
+use Rattle.std.specs.Prelude.{◌≡◌, ℕ, ◌<◌, ◌≤◌, Bool, List, [], ◌∷◌, Option, Some, None, map, Contains}
 use Rattle.std.specs.List.{AllByRecursion}
 use Rattle.pj_journal.specs.declared.entry.Actor.TheVariants.{Session, Worker}
 use Rattle.pj_journal.specs.declared.entry.What.{What}
@@ -40,13 +40,14 @@ Went so mine (request ∷ requests) replies =
     (Went so mine requests) replies
 
 -- the share of a session, whose statements and replies these are
-pub record SessionShare (session : ℕ) (requests : List Request) (h : List Entry) (replies : List Shown)
+pub record SessionShare (told : Bool) (session : ℕ) (requests : List Request) (h : List Entry)
+    (replies : List Shown)
     : Type 0 where
   pub owned :
       AllByRecursion (λ move. Contains (map (λ request. request.line) requests) move.entry.line)
       (moves_by (Session session) h)
   pub order : NeverFall 0 (lines_of (moves_by (Session session) h))
-  pub answered : Went Form (moves_by (Session session) h) requests replies
+  pub answered : Went (Form told) (moves_by (Session session) h) requests replies
 
 -- what a worker's task may add to a place: none of the entries that are built
 abbrev pub IsTask : List Entry → What → Type 0

@@ -1,5 +1,5 @@
 -- The texts of replies and of histories (docs/FORMATS.md).
-use Rattle.std.specs.Prelude.{ℕ, ◌+◌, List, [], ◌∷◌, ◌++◌, length, map, slice_index_or, codes}
+use Rattle.std.specs.Prelude.{ℕ, zero, suc, ◌+◌, List, [], ◌∷◌, ◌++◌, length, map, slice_index_or, codes}
 use Rattle.std.specs.List.{flat_map, join_with_byte}
 use Rattle.std.specs.Fmt.{decimal}
 use Rattle.pj_value.specs.declared.value.Value.{Value}
@@ -14,6 +14,9 @@ use Rattle.pj_journal.specs.History.{catalog}
 use Rattle.pj_expr.specs.Tables.{names}
 use Rattle.pj_bind.specs.declared.types.LimitName.{LimitName}
 use Rattle.pj_bind.specs.declared.types.LimitName.TheVariants as limits
+use Rattle.pj_bind.specs.declared.types.PartName.{PartName}
+use Rattle.pj_bind.specs.declared.types.SourceName.{SourceName}
+use Rattle.pj_bind.specs.declared.types.SourceName.TheVariants as sources
 use Rattle.pj_bind.specs.declared.types.Refusal.{Refusal}
 use Rattle.pj_bind.specs.declared.types.Refusal.TheVariants as refusals
 use Rattle.pj_legal.specs.declared.reply.Reply.{Reply}
@@ -37,6 +40,29 @@ limit_text limits.Tables = codes "TABLES"
 limit_text limits.Columns = codes "COLUMNS"
 limit_text limits.History = codes "HISTORY"
 
+-- a number of a part's name, behind the sign that parts it from what stands before
+abbrev pub name_number : ℕ → List ℕ
+name_number n = codes "_" ++ decimal n
+
+-- the number of a part's last mutation, where there was one
+abbrev pub name_field : ℕ → List ℕ
+name_field zero = []
+name_field (suc n) = name_number (suc n)
+
+-- the name of a part, by the blocks that it covers, its level and its last mutation
+abbrev pub part_name_text : ℕ → ℕ → ℕ → ℕ → List ℕ
+part_name_text min max level field =
+    codes "all" ++ name_number min ++ name_number max ++ name_number level ++ name_field field
+
+-- the name of a part
+abbrev pub part_text : PartName → List ℕ
+part_text part = part_name_text part.min part.max part.level part.field
+
+-- the name of a piece of a part
+abbrev pub source_text : SourceName → List ℕ
+source_text sources.Base = codes "base"
+source_text sources.Mask = codes "mask"
+
 -- a refusal
 abbrev pub refusal_text : Refusal → List ℕ
 refusal_text (refusals.Syntax at) = codes "SYNTAX_ERROR " ++ decimal at
@@ -48,6 +74,12 @@ refusal_text (refusals.UnknownIdentifier name) = codes "UNKNOWN_IDENTIFIER " ++ 
 refusal_text refusals.TypeMismatch = codes "TYPE_MISMATCH"
 refusal_text refusals.NotAnAggregate = codes "NOT_AN_AGGREGATE"
 refusal_text refusals.NotBuilt = codes "NOT_BUILT"
+refusal_text refusals.StoreFault = codes "STORE_FAULT"
+refusal_text (refusals.Damaged part source column granule at) =
+    codes "DAMAGED_PART " ++ (part_text part ++
+    (32
+    ∷ (source_text source ++
+    (32 ∷ (decimal column ++ (32 ∷ (decimal granule ++ (32 ∷ decimal at))))))))
 refusal_text refusals.NoMemory = codes "NO_MEMORY"
 
 -- what the first text line of a reply announces

@@ -4,8 +4,8 @@ ghost use Rattle.pj_legal.specs.Laws.{RunsAreLegal, CutRunsAreLegal, RunGoesOn};
 ghost use Rattle.pj_legal.specs.Laws.{TextsGoOn, NamesAreUnique};
 ghost use Rattle.pj_legal.specs.Laws.{OneBodyReading, BodyReadOrNot, BodyBoundOrRefused, OneBodyBound};
 ghost use Rattle.pj_legal.specs.Laws.{NoBoundBodyIsRefused, OneBodyRefusal};
-ghost use Rattle.pj_legal.specs.Laws.{HistoryRefusesNoBody};
-ghost use Rattle.pj_legal.specs.Laws.{TextsTellNumbers, LegalRepliesArePlain};
+ghost use Rattle.pj_legal.specs.Laws.{HistoryRefusesNoBody, PortRefusesNoBody};
+ghost use Rattle.pj_legal.specs.Laws.{TextsTellNumbers, LegalRepliesArePlain, NoDamageWhereTold};
 ghost use Rattle.pj_legal.specs.Laws.{RepliesAreToldApart, AnnouncementsAreToldApart};
 ghost use Rattle.pj_legal.specs.FixedReplies.{TextFixesReply, TextFixesReplies};
 
@@ -85,6 +85,11 @@ pub fn history_refuses_no_body()
     ensures { HistoryRefusesNoBody }
 {}
 
+/// No body is refused since a port failed or since a granule is damaged: such a statement binds.
+pub fn port_refuses_no_body()
+    ensures { PortRefusesNoBody }
+{}
+
 /// A number of 64 bits has one text in decimal.
 pub fn texts_tell_numbers()
     ensures { TextsTellNumbers }
@@ -93,6 +98,11 @@ pub fn texts_tell_numbers()
 /// No name that a reply of a legal history gives has a line feed: it is a word of the statement's body.
 pub fn legal_replies_are_plain()
     ensures { LegalRepliesArePlain }
+{}
+
+/// Where blobs tell their bytes, no legal reply tells of a damaged granule.
+pub fn no_damage_where_told()
+    ensures { NoDamageWhereTold }
 {}
 
 /// A reader of replies can tell them apart: the line and the session's name are read from a text that begins
@@ -113,7 +123,7 @@ pub fn text_fixes_reply()
 {}
 
 /// Two lists of replies that are both legal for one script and one history, and have one text, are equal: the
-/// kinds of the columns come from the statements.
+/// kinds of the columns come from the statements, or are known otherwise where blobs don't tell their bytes.
 pub fn text_fixes_replies()
     ensures { TextFixesReplies }
 {}

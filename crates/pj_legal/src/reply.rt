@@ -3,12 +3,14 @@ ghost use Rattle.std.specs.Prelude.{◌≡◌, ◌<◌, ◌∷◌, ◌++◌, [],
 ghost use Rattle.std.specs.List.{flat_map, join_with_byte};
 ghost use Rattle.std.specs.Fmt.{decimal};
 ghost use Rattle.pj_value.specs.Values.{value_of};
+ghost use Rattle.pj_bind.specs.declared.types.Refusal.TheVariants.{Damaged};
 ghost use Rattle.pj_legal.specs.Texts.{value_text, row_text, refusal_text, announced, following};
+ghost use Rattle.pj_legal.specs.Texts.{name_number, name_field, part_text, source_text};
 ghost use Rattle.pj_legal.specs.Texts.{as_line, reply_text as text_of_reply};
 
 use crate::bytes::{put, put_number};
 use itoa::write_digits;
-use pj_bind::types::{LimitName, Refusal};
+use pj_bind::types::{LimitName, PartName, Refusal, SourceName};
 use pj_value::{Cell, NoMemory, Rows, Text, escape};
 use std::alloc::Global;
 
@@ -67,7 +69,80 @@ fn put_refusal(out: &mut Vec<u8>, refusal: &Refusal) -> Result<(), NoMemory>
         Refusal::TypeMismatch => put(out, b"TYPE_MISMATCH"),
         Refusal::NotAnAggregate => put(out, b"NOT_AN_AGGREGATE"),
         Refusal::NotBuilt => put(out, b"NOT_BUILT"),
+        Refusal::StoreFault => put(out, b"STORE_FAULT"),
+        Refusal::Damaged {
+            part,
+            source,
+            column,
+            granule,
+            at,
+        } => { put_damaged(out, *part, *source, *column, *granule, *at) }
         Refusal::NoMemory => put(out, b"NO_MEMORY"),
+    }
+}
+
+fn put_damaged(
+    out: &mut Vec<u8>,
+    part: PartName,
+    source: SourceName,
+    column: usize,
+    granule: usize,
+    at: u64,
+) -> Result<(), NoMemory>
+    ensures { OnOk result
+        (out.new.items ≡ out.old.items ++ refusal_text (Damaged part source column granule at)) }
+{
+    put(out, b"DAMAGED_PART ")?;
+    put_part(out, part)?;
+    out.push(b' ')?;
+    put_source(out, source)?;
+    put_next(out, column as u64)?;
+    put_next(out, granule as u64)?;
+    put_next(out, at)?;
+    Ok(())
+}
+
+fn put_part(out: &mut Vec<u8>, part: PartName) -> Result<(), NoMemory>
+    ensures { OnOk result (out.new.items ≡ out.old.items ++ part_text part) }
+{
+    put(out, b"all")?;
+    put_name_number(out, part.min)?;
+    put_name_number(out, part.max)?;
+    put_name_number(out, part.level)?;
+    put_name_field(out, part.field)
+}
+
+fn put_name_number(out: &mut Vec<u8>, n: u64) -> Result<(), NoMemory>
+    ensures { OnOk result (out.new.items ≡ out.old.items ++ name_number n) }
+{
+    out.push(b'_')?;
+    put_number(out, n)
+}
+
+fn put_name_field(out: &mut Vec<u8>, field: u64) -> Result<(), NoMemory>
+    ensures { OnOk result (out.new.items ≡ out.old.items ++ name_field field) }
+{
+    if field == 0 {
+        Ok(())
+    } else {
+        put_name_number(out, field)
+    }
+}
+
+/// Puts a number in decimal behind the others, parted from them by a blank.
+fn put_next(out: &mut Vec<u8>, n: u64) -> Result<(), NoMemory>
+    ensures { OnOk result (out.new.items ≡ out.old.items ++ (32 ∷ decimal n)) }
+{
+    out.push(b' ')?;
+    put_number(out, n)
+}
+
+fn put_source(out: &mut Vec<u8>, source: SourceName) -> Result<(), NoMemory>
+    ensures { OnOk result (out.new.items ≡ out.old.items ++ source_text source) }
+{
+    match source {
+        SourceName::Base => put(out, b"base"),
+        SourceName::Mask => put(out, b"mask"),
     }
 }
 

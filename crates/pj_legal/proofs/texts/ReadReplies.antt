@@ -19,7 +19,7 @@ use Rattle.pj_legal.specs.declared.reply.Reply.TheVariants as replies
 use Rattle.pj_legal.specs.Texts.{value_text, row_text, announced, following, as_line, reply_text}
 use Rattle.pj_legal.specs.Laws.{IsPlain, SayTheSame}
 use Rattle.pj_legal.specs.FixedReplies.{IsCleanValue, AreCleanRows, IsClean, HaveOneShape}
-use Rattle.pj_legal.proofs.texts.TextLaws.{IsFree, IsFree-append, IsFree-decimal, parts_are_same}
+use Rattle.pj_legal.proofs.texts.FreeTexts.{IsFree, IsFree-append, IsFree-decimal, parts_are_same}
 use Rattle.pj_legal.proofs.texts.TextLaws.{reply_text-same, announced-same}
 
 -- neither a tab nor a line feed

@@ -1,11 +1,11 @@
 -- The texts of replies: one after the other, and read back.
-use Rattle.std.proofs.Common.{◌≡◌, ℕ, ◌+◌, ◌/◌, ◌%◌, ◌^◌, ◌<◌, ◌≤◌, ◌++◌, length, zero}
-use Rattle.std.proofs.Common.{suc, true, false, ltb, List, [], ◌∷◌, sym, refl}
+use Rattle.std.proofs.Common.{◌≡◌, ℕ, ◌+◌, ◌^◌, ◌<◌, ◌++◌, length}
+use Rattle.std.proofs.Common.{true, List, [], ◌∷◌, sym, refl}
 use Rattle.std.proofs.Common.{ap, ◌∙◌, subst, arith, append-nil, append_assoc}
-use Rattle.std.specs.Prelude.{Contains, ◌==◌, codes, slice_index}
-use Rattle.std.specs.List.{AllByRecursion, flat_map}
-use Rattle.std.specs.Fmt.{decimal, digits, digits_onto, digit_glyph}
-use Rattle.std.proofs.lemmas.Bool.{false≢true, cond_both}
+use Rattle.std.specs.Prelude.{codes, slice_index}
+use Rattle.std.specs.List.{flat_map}
+use Rattle.std.specs.Fmt.{decimal}
+use Rattle.std.proofs.lemmas.Bool.{false≢true}
 use Rattle.std.proofs.lemmas.List.{append_cancel_left}
 use Rattle.std.proofs.lemmas.List.Concat.{flat_map-append}
 use Rattle.std.proofs.lemmas.Fmt.{decimal_injective}
@@ -21,6 +21,9 @@ use Rattle.pj_legal.specs.Statements.{Shown}
 use Rattle.pj_legal.specs.Texts.{shown_text, replies_text, reply_text, limit_text, refusal_text}
 use Rattle.pj_legal.specs.Texts.{announced, following, as_line}
 use Rattle.pj_legal.specs.Laws.{IsPlainRefusal, IsPlain, HasSmallOffset, SayTheSame}
+use Rattle.pj_legal.proofs.texts.FreeTexts.{IsFree, IsFree-from, IsFree-append, parts_are_same}
+use Rattle.pj_legal.proofs.texts.FreeTexts.{IsFree-decimal}
+use Rattle.pj_legal.proofs.texts.GranuleTexts.{granule_text, IsFree-granule, granule_text-same}
 
 -- one more reply
 pub replies_text-push : (names : List (List ℕ)) (replies : List Shown) (shown : Shown)
@@ -28,57 +31,6 @@ pub replies_text-push : (names : List (List ℕ)) (replies : List Shown) (shown 
 replies_text-push names replies shown =
     flat_map-append (shown_text names) replies (shown ∷ [])
     ∙ ap (λ (text : List ℕ). replies_text names replies ++ text) (append-nil (shown_text names shown))
-
--- no byte of the text is this one
-abbrev pub IsFree : ℕ → List ℕ → Type 0
-IsFree c text = AllByRecursion (λ b. b ≡ c → ⊥) text
-
--- a text is free of what it doesn't contain
-pub IsFree-from : (c : ℕ) (text : List ℕ) → (Contains text c → ⊥) → IsFree c text
-IsFree-from c [] none = tt
-IsFree-from c (b ∷ bs) none = (
-  (λ same. none (0, omega arith, same)),
-  IsFree-from c bs (λ there. none (suc there.0, omega (arith, there.1), there.2)),
-)
-
--- two texts without the byte, one after the other
-pub IsFree-append : (c : ℕ) (xs ys : List ℕ) → IsFree c xs → IsFree c ys → IsFree c (xs ++ ys)
-IsFree-append c [] ys first last = last
-IsFree-append c (x ∷ xs) ys first last = (first.0, IsFree-append c xs ys first.1 last)
-
--- where two texts are the same, so are their parts before and behind the first byte of this kind
-pub parts_are_same : (c : ℕ) (xs ys ms ns : List ℕ) → IsFree c xs → IsFree c ys
-    → xs ++ (c ∷ ms) ≡ ys ++ (c ∷ ns) → (xs ≡ ys) × (ms ≡ ns)
-parts_are_same c [] [] ms ns first last same = (refl, cc)
-parts_are_same c [] (y ∷ ys) ms ns first last same = absurd (last.0 (cc))
-parts_are_same c (x ∷ xs) [] ms ns first last same = absurd (first.0 (cc))
-parts_are_same c (x ∷ xs) (y ∷ ys) ms ns first last same =
-    let head : x ≡ y = cc in
-    let tail : xs ++ (c ∷ ms) ≡ ys ++ (c ∷ ns) = cc in
-    let rest : (xs ≡ ys) × (ms ≡ ns) = parts_are_same c xs ys ms ns first.1 last.1 tail in
-    (let others : xs ≡ ys = rest.0 in cc, rest.1)
-
--- a byte below the digits is none of a number's
-IsFree-digits_onto : (c k n : ℕ) (bytes : List ℕ) → c < 48 → IsFree c bytes
-    → IsFree c (digits_onto k 10 false n bytes)
-IsFree-digits_onto c zero n bytes low free = free
-IsFree-digits_onto c (suc k) n bytes low free =
-    cond_both (n / 10 == 0) (digit_glyph false (n % 10) ∷ bytes)
-    (digits_onto k 10 false (n / 10) (digit_glyph false (n % 10) ∷ bytes)) (IsFree c)
-    (λ last. more) (λ others. IsFree-digits_onto c k (n / 10) (digit_glyph false (n % 10) ∷ bytes) low more)
-  where
-    high : 48 ≤ digit_glyph false (n % 10)
-    high =
-        cond_both (ltb (n % 10) 10) (48 + n % 10) (87 + n % 10) (λ b. 48 ≤ b) (λ _. omega arith)
-        (λ _. omega arith)
-
-    more : IsFree c (digit_glyph false (n % 10) ∷ bytes)
-    more = ((λ same. omega (arith, high)), free)
-
--- so with a number's text
-pub IsFree-decimal : (c n : ℕ) → c < 48 → IsFree c (decimal n)
-unfolding digits
-IsFree-decimal c n low = IsFree-digits_onto c 64 n [] low tt
 
 -- no blank in a name
 pub IsFree-name : (name : List ℕ) → IsName name → IsFree 32 name
@@ -111,6 +63,10 @@ IsFree-refusal (refusals.UnknownIdentifier name) plain =
 IsFree-refusal refusals.TypeMismatch plain = omega arith
 IsFree-refusal refusals.NotAnAggregate plain = omega arith
 IsFree-refusal refusals.NotBuilt plain = omega arith
+IsFree-refusal refusals.StoreFault plain = omega arith
+IsFree-refusal (refusals.Damaged part source column granule at) plain =
+    IsFree-append 10 (codes "DAMAGED_PART ") (granule_text part source column granule at) (omega arith)
+    (IsFree-granule part source column granule at)
 IsFree-refusal refusals.NoMemory plain = omega arith
 
 -- nor in what a reply announces
@@ -194,6 +150,12 @@ refusal_text-same (refusals.UnknownIdentifier name) (refusals.UnknownIdentifier 
 refusal_text-same refusals.TypeMismatch refusals.TypeMismatch few many same = refl
 refusal_text-same refusals.NotAnAggregate refusals.NotAnAggregate few many same = refl
 refusal_text-same refusals.NotBuilt refusals.NotBuilt few many same = refl
+refusal_text-same refusals.StoreFault refusals.StoreFault few many same = refl
+refusal_text-same (refusals.Damaged part source column granule at)
+    (refusals.Damaged part' source' column' granule' at') few many same =
+    granule_text-same part part' source source' column column' granule granule' at at' few many
+    (append_cancel_left (codes "DAMAGED_PART ") (granule_text part source column granule at)
+    (granule_text part' source' column' granule' at') same)
 refusal_text-same refusals.NoMemory refusals.NoMemory few many same = refl
 refusal_text-same refusal other few many same = absurd (omega (arith, ap tag same))
 
@@ -209,6 +171,8 @@ refusal_text-tag (refusals.UnknownIdentifier name) = omega arith
 refusal_text-tag refusals.TypeMismatch = omega arith
 refusal_text-tag refusals.NotAnAggregate = omega arith
 refusal_text-tag refusals.NotBuilt = omega arith
+refusal_text-tag refusals.StoreFault = omega arith
+refusal_text-tag (refusals.Damaged part source column granule at) = omega arith
 refusal_text-tag refusals.NoMemory = omega arith
 
 -- and what a reply announces tells its kind
