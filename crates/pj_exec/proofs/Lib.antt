@@ -1,0 +1,3 @@
+pub mod ScanLemmas
+pub mod AgreeLemmas
+pub mod SelectLemmas

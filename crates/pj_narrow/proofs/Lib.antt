@@ -1,0 +1,11 @@
+pub mod AnswerLemmas
+pub mod FitsLemmas
+pub mod GroupLemmas
+pub mod ItemLemmas
+pub mod ListLemmas
+pub mod MeaningLemmas
+pub mod NarrowLemmas
+pub mod PlaceLemmas
+pub mod TreeLemmas
+pub mod UsesLemmas
+pub mod WithinLemmas
