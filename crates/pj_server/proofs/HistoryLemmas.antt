@@ -1,18 +1,16 @@
 -- A history with one entry more.
 use Rattle.std.proofs.Common.{◌≡◌, ℕ, ◌+◌, ◌≤◌, true, false, cond, eqb, List, [], ◌∷◌, ◌++◌, length}
 use Rattle.std.proofs.Common.{fold, refl, sym, ap, subst, ◌∙◌, append_assoc, append-nil, arith}
-use Rattle.std.specs.List.{flat_map}
 use Rattle.std.proofs.lemmas.List.Sums.{fold_push}
-use Rattle.std.proofs.lemmas.List.Concat.{flat_map-append}
 use Rattle.std.proofs.lemmas.Bool.{eq-eqb, ne_eqb}
-use Rattle.pj_value.specs.declared.value.Value.{Value}
 use Rattle.pj_value.specs.Rows.{KindedRows}
 use Rattle.pj_expr.specs.declared.table.Table.{Table}
+use Rattle.pj_expr.specs.Parts.{PartRecord}
 use Rattle.pj_journal.specs.declared.entry.What.{What}
 use Rattle.pj_journal.specs.declared.entry.What.TheVariants.{Created, Refused, Looked, Begun, Inserted}
 use Rattle.pj_journal.specs.declared.entry.Entry.{Entry}
-use Rattle.pj_journal.specs.History.{Block, catalog, catalog_on, blocks, blocks_on, rows}
-use Rattle.pj_journal.specs.History.{next, next_on, WhatFits, IsRegularFrom, IsRegular}
+use Rattle.pj_journal.specs.History.{catalog, catalog_on, next, next_on, WhatFits, IsRegularFrom, IsRegular}
+use Rattle.pj_journal.specs.Parts.{inserted, parts, parts_on}
 use Rattle.pj_server.specs.Moves.{ChangesNothing}
 
 pub IsRegularFrom-push : (place xs : List Entry) (e : Entry) → IsRegularFrom place xs
@@ -30,20 +28,11 @@ IsRegular-push h e regular fits = IsRegularFrom-push [] h e regular fits
 pub catalog-push : (h : List Entry) (e : Entry) → catalog (h ++ e ∷ []) ≡ catalog_on (catalog h) e.what
 catalog-push h e = fold_push (λ (ts : List Table) (x : Entry). catalog_on ts x.what) [] h e
 
-pub blocks-push : (h : List Entry) (e : Entry) (t : ℕ)
-    → blocks (h ++ e ∷ []) t ≡ blocks_on t (blocks h t) e.what
-blocks-push h e t = fold_push (λ (bs : List Block) (x : Entry). blocks_on t bs x.what) [] h e
+pub parts-push : (h : List Entry) (e : Entry) (t : ℕ) → parts (h ++ e ∷ []) t ≡ parts_on t (parts h t) e.what
+parts-push h e t = fold_push (λ (ps : List PartRecord) (x : Entry). parts_on t ps x.what) [] h e
 
 pub next-push : (h : List Entry) (e : Entry) (t : ℕ) → next (h ++ e ∷ []) t ≡ next_on t (next h t) e.what
 next-push h e t = fold_push (λ (n : ℕ) (x : Entry). next_on t n x.what) 1 h e
-
--- the rows of blocks
-abbrev pub rows_of : List Block → List (List Value)
-rows_of bs = flat_map (λ block. block.rows) bs
-
-pub rows-push : (h : List Entry) (e : Entry) (t : ℕ)
-    → rows (h ++ e ∷ []) t ≡ flat_map (λ block. block.rows) (blocks_on t (blocks h t) e.what)
-rows-push h e t = ap rows_of (blocks-push h e t)
 
 -- a move that changes neither tables nor rows
 pub catalog_on-nothing : (ts : List Table) (w : What) → ChangesNothing w → catalog_on ts w ≡ ts
@@ -53,12 +42,12 @@ catalog_on-nothing ts (Looked table) h = refl
 catalog_on-nothing ts (Begun table) h = refl
 catalog_on-nothing ts (Inserted table block rs) h = absurd h
 
-pub blocks_on-nothing : (t : ℕ) (bs : List Block) (w : What) → ChangesNothing w → blocks_on t bs w ≡ bs
-blocks_on-nothing t bs (Created table) h = absurd h
-blocks_on-nothing t bs Refused h = refl
-blocks_on-nothing t bs (Looked table) h = refl
-blocks_on-nothing t bs (Begun table) h = refl
-blocks_on-nothing t bs (Inserted table block rs) h = absurd h
+pub parts_on-nothing : (t : ℕ) (ps : List PartRecord) (w : What) → ChangesNothing w → parts_on t ps w ≡ ps
+parts_on-nothing t ps (Created table) h = absurd h
+parts_on-nothing t ps Refused h = refl
+parts_on-nothing t ps (Looked table) h = refl
+parts_on-nothing t ps (Begun table) h = refl
+parts_on-nothing t ps (Inserted table block rs) h = absurd h
 
 pub next_on-nothing : (t n : ℕ) (w : What) → ChangesNothing w → next_on t n w ≡ n
 next_on-nothing t n (Created table) h = absurd h
@@ -67,24 +56,21 @@ next_on-nothing t n (Looked table) h = refl
 next_on-nothing t n (Begun table) h = refl
 next_on-nothing t n (Inserted table block rs) h = absurd h
 
--- the rows of an INSERT stand behind those of its table, and other tables stay
-pub rows-inserted_same : (h : List Entry) (e : Entry) (t block : ℕ) (rs : KindedRows)
-    → e.what ≡ Inserted t block rs → rows (h ++ e ∷ []) t ≡ rows h t ++ rs.rows
-rows-inserted_same h e t block rs is =
-    let one : Block = record { number = block; rows = rs.rows } in
-    let all : blocks_on t (blocks h t) (Inserted t block rs) ≡ blocks h t ++ one ∷ [] =
-    ap (λ b. cond b (blocks h t ++ one ∷ []) (blocks h t)) (eq-eqb t t refl) in
-    rows-push h e t ∙ ap (λ w. rows_of (blocks_on t (blocks h t) w)) is ∙ ap rows_of all
-    ∙ flat_map-append (λ (b : Block). b.rows) (blocks h t) (one ∷ [])
-    ∙ ap (λ (xs : List (List Value)). rows h t ++ xs) (append-nil rs.rows)
+-- the record of an INSERT stands behind those of its table, and other tables stay
+pub parts-inserted_same : (h : List Entry) (e : Entry) (t block : ℕ) (rs : KindedRows)
+    → e.what ≡ Inserted t block rs
+    → parts (h ++ e ∷ []) t ≡ parts h t ++ inserted (1 + length (parts h t)) block rs.rows ∷ []
+parts-inserted_same h e t block rs is =
+    let one = inserted (1 + length (parts h t)) block rs.rows in
+    parts-push h e t ∙ ap (parts_on t (parts h t)) is
+    ∙ ap (λ b. cond b (parts h t ++ one ∷ []) (parts h t)) (eq-eqb t t refl)
 
-pub rows-inserted_other : (h : List Entry) (e : Entry) (t u block : ℕ) (rs : KindedRows)
-    → e.what ≡ Inserted u block rs → (u ≡ t → ⊥) → rows (h ++ e ∷ []) t ≡ rows h t
-rows-inserted_other h e t u block rs is ne =
-    let one : Block = record { number = block; rows = rs.rows } in
-    let all : blocks_on t (blocks h t) (Inserted u block rs) ≡ blocks h t =
-    ap (λ b. cond b (blocks h t ++ one ∷ []) (blocks h t)) (ne_eqb u t ne) in
-    rows-push h e t ∙ ap (λ w. rows_of (blocks_on t (blocks h t) w)) is ∙ ap rows_of all
+pub parts-inserted_other : (h : List Entry) (e : Entry) (t u block : ℕ) (rs : KindedRows)
+    → e.what ≡ Inserted u block rs → (u ≡ t → ⊥) → parts (h ++ e ∷ []) t ≡ parts h t
+parts-inserted_other h e t u block rs is ne =
+    let one = inserted (1 + length (parts h t)) block rs.rows in
+    parts-push h e t ∙ ap (parts_on t (parts h t)) is
+    ∙ ap (λ b. cond b (parts h t ++ one ∷ []) (parts h t)) (ne_eqb u t ne)
 
 pub next-inserted_same : (h : List Entry) (e : Entry) (t block : ℕ) (rs : KindedRows)
     → e.what ≡ Inserted t block rs → next (h ++ e ∷ []) t ≡ next h t + 1

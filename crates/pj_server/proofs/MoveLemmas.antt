@@ -1,5 +1,5 @@
 -- From what a body means to what its moves are.
-use Rattle.std.proofs.Common.{◌≡◌, ℕ, ◌+◌, ◌<◌, List, [], ◌∷◌, ◌++◌, length, map, Option, Some, None}
+use Rattle.std.proofs.Common.{◌≡◌, ℕ, ◌+◌, ◌<◌, Bool, true, false, List, [], ◌∷◌, ◌++◌, length, map, Option, Some, None}
 use Rattle.std.proofs.Common.{Result, Ok, Err, refl}
 use Rattle.std.proofs.Common.{sym, ap, subst, ◌∙◌, inl, inr, append_assoc, append-nil, arith}
 use Rattle.std.specs.Prelude.{IfOk, IfErr, OnOk}
@@ -43,12 +43,17 @@ use Rattle.pj_bind.specs.Faults.{IsBindFault}
 use Rattle.pj_legal.specs.Bodies.{BodyReads, BodyBinds, IsBodyRefusal}
 use Rattle.pj_legal.specs.Laws.{HistoryRefusesNoBody}
 use Rattle.pj_legal.specs.Statements.{Request, whole}
-use Rattle.pj_legal.specs.Forms.{Course, entry_of, no_memory, history_full, BoundForm, Form, StopsAfter}
-use Rattle.pj_legal.specs.Forms.{MayStarve, MovesOn}
+use Rattle.pj_legal.specs.Forms.{Course, entry_of, no_memory, history_full, store_fault, BoundForm, Form}
+use Rattle.pj_legal.specs.Forms.{StopsAfter, MayFail, MovesOn}
 use Rattle.pj_legal.specs.Full.{HasNext}
 use Rattle.pj_legal.specs.Run.{IsStep, course}
 use Rattle.pj_server.specs.declared.server.By.{By}
-use Rattle.pj_server.specs.Moves.{request_of, Adds, BoundFits, BoundStops, Fills, BoundDone}
+use Rattle.pj_part.specs.declared.part.Part.{Part}
+use Rattle.pj_exec.specs.declared.fault.SelectFault.{SelectFault}
+use Rattle.pj_exec.specs.declared.fault.SelectFault.TheVariants as select_faults
+use Rattle.pj_bind.specs.declared.types.SourceName.TheVariants.{Base}
+use Rattle.pj_server.specs.Refusals.{name_of, IsRefusalFor}
+use Rattle.pj_server.specs.Moves.{request_of, Adds, BoundFits, BoundStops, Fills, LeavesRoom, BoundDone}
 use Rattle.pj_server.specs.Moves.{Does, Serves, ChangesNothing, IsReadFault}
 use Rattle.pj_server.proofs.HistoryLemmas.{catalog-push, catalog_on-nothing}
 
@@ -128,14 +133,14 @@ pub entries-nil : (a b : Log) → Adds a b [] → b.entries ≡ a.entries
 entries-nil a b p = p.grown ∙ append-nil a.entries
 
 -- a statement that begins when nothing was added yet
-pub Serves-after : (a b c : Log) (request : Request) (reply : Reply) → Adds a b [] → Serves b c request reply
-    → Serves a c request reply
-Serves-after a b c request reply none h =
+pub Serves-after : (told : Bool) (a b c : Log) (request : Request) (reply : Reply) → Adds a b []
+    → Serves told b c request reply → Serves told a c request reply
+Serves-after told a b c request reply none h =
     let same = entries-nil a b none in (
       h.0,
       Adds-trans a b c [] h.0 none h.1,
-      subst (λ es. IsStep a.limit es request h.0 reply) same
-          (subst (λ l. IsStep l b.entries request h.0 reply) none.limit h.2),
+      subst (λ es. IsStep told a.limit es request h.0 reply) same
+          (subst (λ l. IsStep told l b.entries request h.0 reply) none.limit h.2),
     )
 
 -- ---- statements that stop before their first move, or are refused by it
@@ -144,9 +149,9 @@ no_memory-full : no_memory ≡ history_full → ⊥
 no_memory-full same = cc
 
 -- out of memory, though the journal has room
-pub serves_no_memory : (a b : Log) (request : Request) → Adds a b [] → (IsFull a → ⊥)
-    → Serves a b request no_memory
-serves_no_memory a b request none room = (
+pub serves_no_memory : (told : Bool) (a b : Log) (request : Request) → Adds a b [] → (IsFull a → ⊥)
+    → Serves told a b request no_memory
+serves_no_memory told a b request none room = (
   [],
   none,
   record {
@@ -160,8 +165,9 @@ serves_no_memory a b request none room = (
 pub below-full : (a : Log) → length a.entries < a.limit → IsFull a → ⊥
 below-full a below full = omega arith
 
-pub serves_full : (a b : Log) (request : Request) → Adds a b [] → IsFull a → Serves a b request history_full
-serves_full a b request none full = (
+pub serves_full : (told : Bool) (a b : Log) (request : Request) → Adds a b [] → IsFull a
+    → Serves told a b request history_full
+serves_full told a b request none full = (
   [],
   none,
   record {
@@ -171,10 +177,10 @@ serves_full a b request none full = (
   },
 )
 
-pub serves_refusal : HistoryRefusesNoBody → (a b : Log) (request : Request) (refusal : Refusal)
+pub serves_refusal : HistoryRefusesNoBody → (told : Bool) (a b : Log) (request : Request) (refusal : Refusal)
     → IsBodyRefusal (catalog a.entries) request.body refusal → Adds a b (entry_of request whats.Refused ∷ [])
-    → Serves a b request (replies.Refused refusal)
-serves_refusal never a b request refusal refused adds = (
+    → Serves told a b request (replies.Refused refusal)
+serves_refusal never told a b request refusal refused adds = (
   entry_of request whats.Refused ∷ [],
   adds,
   record {
@@ -197,12 +203,13 @@ serves_refusal never a b request refusal refused adds = (
 -- ---- bound statements
 
 -- the moves don't tell the body
-same_form : (place : List Entry) (line session : ℕ) (one other : List ℕ) (bound : Bound) (went : Course)
-    → BoundForm place (whole line session one) bound went
-    → BoundForm place (whole line session other) bound went
-same_form place line session one other (bounds.Create table) went h = h
-same_form place line session one other (bounds.Insert table rs) went h = h
-same_form place line session one other (bounds.Select table query) went h = h
+same_form : (told : Bool) (place : List Entry) (line session : ℕ) (one other : List ℕ) (bound : Bound)
+    (went : Course)
+    → BoundForm told place (whole line session one) bound went
+    → BoundForm told place (whole line session other) bound went
+same_form told place line session one other (bounds.Create table) went h = h
+same_form told place line session one other (bounds.Insert table rs) went h = h
+same_form told place line session one other (bounds.Select table query) went h = h
 
 stops_after : (sort : Bound → What → Type 0) (place : List Entry) (request : Request) (bound : Bound)
     (added : List Entry) (reply : Reply)
@@ -213,88 +220,126 @@ stops_after sort place request bound added reply binds (inr one) =
     inr (place, bound, one.0, binds, one.1, ap (moves_from place) one.2)
 
 -- what a bound statement did is the form of its body
-form_of_bound : (old : Log) (by : By) (body : List ℕ) (bound : Bound) (added : List Entry) (reply : Reply)
-    → BodyBinds (catalog old.entries) body bound → BoundDone old (request_of by) bound added reply
-    → Form (whole by.line by.session body) (course old.entries added reply)
-form_of_bound old by body bound added reply binds (inl done) =
+form_of_bound : (told : Bool) (old : Log) (by : By) (body : List ℕ) (bound : Bound) (added : List Entry)
+    (reply : Reply)
+    → BodyBinds (catalog old.entries) body bound → BoundDone told old (request_of by) bound added reply
+    → Form told (whole by.line by.session body) (course old.entries added reply)
+form_of_bound told old by body bound added reply binds (inl done) =
     inr (inl (record {
       place = old.entries;
       bound = bound;
       binds = binds;
-      form = same_form old.entries by.line by.session [] body bound (course old.entries added reply) done;
+      form = same_form told old.entries by.line by.session [] body bound (course old.entries added reply) done;
     }))
-form_of_bound old by body bound added reply binds (inr (inl early)) =
+form_of_bound told old by body bound added reply binds (inr (inl early)) =
     inr (inr (inl (record {
       stopped =
-          stops_after MayStarve old.entries (whole by.line by.session body) bound added reply binds early.1;
+          stops_after MayFail old.entries (whole by.line by.session body) bound added reply binds early.1;
       reply = ap Some early.0;
     })))
-form_of_bound old by body bound added reply binds (inr (inr early)) =
+form_of_bound told old by body bound added reply binds (inr (inr (inl early))) =
     inr (inr (inr (inl (record {
       stopped =
           stops_after MovesOn old.entries (whole by.line by.session body) bound added reply binds early.1;
       reply = ap Some early.0;
     }))))
+form_of_bound told old by body bound added reply binds (inr (inr (inr (inl early)))) =
+    inr (inr (inr (inr (inl (record {
+      stopped = (old.entries, bound, early.1.0, binds, early.1.1, ap (moves_from old.entries) early.1.2);
+      reply = ap Some early.0;
+    })))))
+form_of_bound told old by body bound added reply binds (inr (inr (inr (inr met)))) =
+    inr (inr (inr (inr (inr (inl (record {
+      untold = met.untold;
+      place = old.entries;
+      table = met.table;
+      query = met.query;
+      binds = subst (BodyBinds (catalog old.entries) body) met.bound_is binds;
+      moves = ap (moves_from old.entries) met.moves;
+      part = met.part;
+      source = met.source;
+      column = met.column;
+      granule = met.granule;
+      at = met.at;
+      reply = ap Some met.reply_is;
+    }))))))
 
 -- one that is done tells no full journal
-done_not_full : (place : List Entry) (request : Request) (bound : Bound) (added : List Entry) (reply : Reply)
-    → BoundForm place request bound (course place added reply) → reply ≡ history_full → ⊥
-done_not_full place request (bounds.Create table) added reply form same =
+done_not_full : (told : Bool) (place : List Entry) (request : Request) (bound : Bound) (added : List Entry)
+    (reply : Reply)
+    → BoundForm told place request bound (course place added reply) → reply ≡ history_full → ⊥
+done_not_full told place request (bounds.Create table) added reply form same =
     let is : reply ≡ replies.Done = same_Some _ _ form.1 in cc
-done_not_full place request (bounds.Insert table rs) added reply form same =
+done_not_full told place request (bounds.Insert table rs) added reply form same =
     let is : reply ≡ replies.Done = same_Some _ _ form.3 in cc
-done_not_full place request (bounds.Select table query) added reply form same =
+done_not_full told place request (bounds.Select table query) added reply form same =
     let is : reply ≡ replies.Rows form.0 = same_Some _ _ form.3 in cc
 
 -- and has no move to make
-done_no_next : (place : List Entry) (request : Request) (bound : Bound) (went : Course)
-    → BoundForm place request bound went → HasNext went.moves → ⊥
-done_no_next place request (bounds.Create table) went form next = subst HasNext form.0 next
-done_no_next place request (bounds.Insert table rs) went form next = subst HasNext form.2 next
-done_no_next place request (bounds.Select table query) went form next = subst HasNext form.2 next
+done_no_next : (told : Bool) (place : List Entry) (request : Request) (bound : Bound) (went : Course)
+    → BoundForm told place request bound went → HasNext went.moves → ⊥
+done_no_next told place request (bounds.Create table) went form next = subst HasNext form.0 next
+done_no_next told place request (bounds.Insert table rs) went form next = subst HasNext form.2 next
+done_no_next told place request (bounds.Select table query) went form next = subst HasNext form.2 next
 
-full_of_bound : (old : Log) (request : Request) (bound : Bound) (added : List Entry) (reply : Reply)
-    → BoundDone old request bound added reply → reply ≡ history_full → Fills old added
-full_of_bound old request bound added reply (inl done) same =
-    absurd (done_not_full old.entries request bound added reply done same)
-full_of_bound old request bound added reply (inr (inl early)) same =
+store_fault-full : store_fault ≡ history_full → ⊥
+store_fault-full same = cc
+
+damage-full : (refusal : Refusal) → replies.Refused refusal ≡ history_full → refusal ≡ refusals.Limit History
+damage-full refusal same = cc
+
+full_of_bound : (told : Bool) (old : Log) (request : Request) (bound : Bound) (added : List Entry) (reply : Reply)
+    → BoundDone told old request bound added reply → reply ≡ history_full → Fills old added
+full_of_bound told old request bound added reply (inl done) same =
+    absurd (done_not_full told old.entries request bound added reply done same)
+full_of_bound told old request bound added reply (inr (inl early)) same =
     absurd (no_memory-full (sym early.0 ∙ same))
-full_of_bound old request bound added reply (inr (inr early)) same = early.2
+full_of_bound told old request bound added reply (inr (inr (inl early))) same = early.2
+full_of_bound told old request bound added reply (inr (inr (inr (inl early)))) same =
+    absurd (store_fault-full (sym early.0 ∙ same))
+full_of_bound told old request bound added reply (inr (inr (inr (inr met)))) same =
+    let is = damage-full (refusals.Damaged met.part met.source met.column met.granule met.at)
+    (sym met.reply_is ∙ same) in cc
 
-always_of_bound : (old : Log) (request : Request) (bound : Bound) (added : List Entry) (reply : Reply)
-    → BoundDone old request bound added reply → Fills old added → HasNext (moves_from old.entries added)
+always_of_bound : (told : Bool) (old : Log) (request : Request) (bound : Bound) (added : List Entry)
+    (reply : Reply)
+    → BoundDone told old request bound added reply → Fills old added → HasNext (moves_from old.entries added)
     → reply ≡ history_full
-always_of_bound old request bound added reply (inl done) fills next =
-    absurd (done_no_next old.entries request bound (course old.entries added reply) done next)
-always_of_bound old request bound added reply (inr (inl early)) fills next = absurd (early.2 fills next)
-always_of_bound old request bound added reply (inr (inr early)) fills next = early.0
+always_of_bound told old request bound added reply (inl done) fills next =
+    absurd (done_no_next told old.entries request bound (course old.entries added reply) done next)
+always_of_bound told old request bound added reply (inr (inl early)) fills next = absurd (early.2 fills next)
+always_of_bound told old request bound added reply (inr (inr (inl early))) fills next = early.0
+always_of_bound told old request bound added reply (inr (inr (inr (inl early)))) fills next =
+    absurd (early.2 fills next)
+always_of_bound told old request bound added reply (inr (inr (inr (inr met)))) fills next =
+    absurd (subst (λ xs. HasNext (moves_from old.entries xs)) met.moves next)
 
-pub serves_bound : (old new : Log) (by : By) (body : List ℕ) (bound : Bound) (reply : Reply)
-    → BodyBinds (catalog old.entries) body bound → Does old new (request_of by) bound reply
-    → Serves old new (whole by.line by.session body) reply
-serves_bound old new by body bound reply binds does = (
+pub serves_bound : (told : Bool) (old new : Log) (by : By) (body : List ℕ) (bound : Bound) (reply : Reply)
+    → BodyBinds (catalog old.entries) body bound → Does told old new (request_of by) bound reply
+    → Serves told old new (whole by.line by.session body) reply
+serves_bound told old new by body bound reply binds does = (
   does.0,
   does.1,
   record {
-    form = form_of_bound old by body bound does.0 reply binds does.2;
-    full = full_of_bound old (request_of by) bound does.0 reply does.2;
-    always = always_of_bound old (request_of by) bound does.0 reply does.2;
+    form = form_of_bound told old by body bound does.0 reply binds does.2;
+    full = full_of_bound told old (request_of by) bound does.0 reply does.2;
+    always = always_of_bound told old (request_of by) bound does.0 reply does.2;
   },
 )
 
-pub does_no_memory : (a b : Log) (request : Request) (bound : Bound) → length a.entries < a.limit
+pub does_no_memory : (told : Bool) (a b : Log) (request : Request) (bound : Bound) → length a.entries < a.limit
     → Adds a b []
-    → Does a b request bound no_memory
-does_no_memory a b request bound below none =
+    → Does told a b request bound no_memory
+does_no_memory told a b request bound below none =
     ([], none, inr (inl (refl, inl refl, λ fills next. omega (arith, fills, below))))
 
-pub does_create : (a b : Log) (request : Request) (table : Table)
-    → Adds a b (entry_of request (whats.Created table) ∷ []) → Does a b request
+pub does_create : (told : Bool) (a b : Log) (request : Request) (table : Table)
+    → Adds a b (entry_of request (whats.Created table) ∷ []) → Does told a b request
     (bounds.Create table) replies.Done
-does_create a b request table adds = (entry_of request (whats.Created table) ∷ [], adds, inl (refl, refl))
+does_create told a b request table adds = (entry_of request (whats.Created table) ∷ [], adds, inl (refl, refl))
 
 -- an INSERT began, and the journal was full, or it was out of memory, or it committed
-module _ (a b c : Log) (request : Request) (table : ℕ) (rs : KindedRows)
+module _ (told : Bool) (a b c : Log) (request : Request) (table : ℕ) (rs : KindedRows)
     (begun : Adds a b (entry_of request (whats.Begun table) ∷ [])) (room : Adds b c []) where
   began : Adds a c (entry_of request (whats.Begun table) ∷ [])
   began = Adds-trans a b c (entry_of request (whats.Begun table) ∷ []) [] begun room
@@ -303,14 +348,14 @@ module _ (a b c : Log) (request : Request) (table : ℕ) (rs : KindedRows)
   long : length b.entries ≡ length a.entries + 1
   long = ap length begun.grown ∙ length_push a.entries (entry_of request (whats.Begun table))
 
-  pub insert_full : IsFull b → Does a c request (bounds.Insert table rs) history_full
+  pub insert_full : IsFull b → Does told a c request (bounds.Insert table rs) history_full
   insert_full full = (
     entry_of request (whats.Begun table) ∷ [],
     began,
-    inr (inr (refl, inr (whats.Begun table, refl, refl), omega (arith, long, full, begun.limit))),
+    inr (inr (inl (refl, inr (whats.Begun table, refl, refl), omega (arith, long, full, begun.limit)))),
   )
 
-  pub insert_stops : (IsFull b → ⊥) → (d : Log) → Adds c d [] → Does a d request
+  pub insert_stops : (IsFull b → ⊥) → (d : Log) → Adds c d [] → Does told a d request
       (bounds.Insert table rs) no_memory
   insert_stops room_left d none = (
     entry_of request (whats.Begun table) ∷ [],
@@ -322,9 +367,21 @@ module _ (a b c : Log) (request : Request) (table : ℕ) (rs : KindedRows)
     )),
   )
 
+  pub insert_faults : (IsFull b → ⊥) → (d : Log) → Adds c d [] → Does told a d request
+      (bounds.Insert table rs) store_fault
+  insert_faults room_left d none = (
+    entry_of request (whats.Begun table) ∷ [],
+    Adds-trans a c d _ [] began none,
+    inr (inr (inr (inl (
+      refl,
+      (whats.Begun table, refl, refl),
+      (λ fills next. room_left (omega (arith, long, fills, begun.limit))),
+    )))),
+  )
+
   pub insert_commits : (d : Log) (block : ℕ) → Adds c d (entry_of request
       (whats.Inserted table block rs) ∷ [])
-      → Does a d request (bounds.Insert table rs) replies.Done
+      → Does told a d request (bounds.Insert table rs) replies.Done
   insert_commits d block adds = (
     entry_of request (whats.Begun table) ∷ entry_of request (whats.Inserted table block rs) ∷ [],
     Adds-trans a c d _ _ began adds,
@@ -338,12 +395,54 @@ tables_stay a b c e nothing begun room =
     ap catalog (entries-nil b c room ∙ begun.grown) ∙ catalog-push a.entries e
     ∙ catalog_on-nothing (catalog a.entries) e.what nothing
 
-pub does_select : (a b : Log) (request : Request) (table : ℕ) (query : Query) (held out : KindedRows)
-    → held ≡ table_rows a.entries table → Answers query held out
+pub does_select : (told : Bool) (a b : Log) (request : Request) (table : ℕ) (query : Query) (out : KindedRows)
+    → (told ≡ true → Answers query (table_rows a.entries table) out)
     → Adds a b (entry_of request (whats.Looked table) ∷ [])
-    → Does a b request (bounds.Select table query) (replies.Rows out)
-does_select a b request table query held out same right adds = (
+    → Does told a b request (bounds.Select table query) (replies.Rows out)
+does_select told a b request table query out right adds = (
   entry_of request (whats.Looked table) ∷ [],
   adds,
-  inl (out, subst (λ xs. Answers query xs out) same right, refl, refl),
+  inl (out, right, refl, refl),
 )
+
+-- a SELECT looked, and its parts could not be read
+module _ {B : Type 0} (told : Bool) (a b : Log) (request : Request) (table : ℕ) (query : Query)
+    (ps : List (Part B)) (adds : Adds a b (entry_of request (whats.Looked table) ∷ [])) where
+  pub select_refused : (fault : SelectFault) (refusal : Refusal) → IsRefusalFor ps fault refusal
+      → ((part column granule at : ℕ) → fault ≡ select_faults.Damaged part column granule at → told ≡ false)
+      → Does told a b request (bounds.Select table query) (replies.Refused refusal)
+  select_refused select_faults.StoreFault refusal is untold = (
+    entry_of request (whats.Looked table) ∷ [],
+    adds,
+    inr (inr (inr (inl (
+      ap replies.Refused is,
+      (whats.Looked table, refl, refl),
+      (λ fills next. absurd next),
+    )))),
+  )
+  select_refused select_faults.NoMemory refusal is untold = (
+    entry_of request (whats.Looked table) ∷ [],
+    adds,
+    inr (inl (
+      ap replies.Refused is,
+      inr (whats.Looked table, refl, refl),
+      (λ fills next. absurd next),
+    )),
+  )
+  select_refused (select_faults.Damaged part column granule at) refusal is untold = (
+    entry_of request (whats.Looked table) ∷ [],
+    adds,
+    inr (inr (inr (inr (record {
+      untold = untold part column granule at refl;
+      table = table;
+      query = query;
+      bound_is = refl;
+      moves = refl;
+      part = name_of is.0;
+      source = Base;
+      column = column;
+      granule = granule;
+      at = at;
+      reply_is = ap replies.Refused is.2;
+    })))),
+  )

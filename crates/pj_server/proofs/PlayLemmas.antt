@@ -29,6 +29,8 @@ use Rattle.pj_server.specs.declared.ending.End.{End}
 use Rattle.pj_server.specs.declared.ending.End.TheVariants.{Usage, SourceFailed, TooLarge, BadLine}
 use Rattle.pj_server.specs.declared.ending.End.TheVariants.{SinkFailed, NoMemory, Finished}
 use Rattle.pj_server.specs.Moves.{Serves}
+use Rattle.pj_server.specs.PortFaults.{IsBlamed}
+use Rattle.pj_server.proofs.PortLemmas.{AreBlamed-none, AreBlamed-more}
 use Rattle.pj_server.specs.RunLines.{Writes, RunsLine, RunsLines}
 use Rattle.pj_server.specs.Ends.{TellsLine, WholeScript, PartScript, ScriptEnds, FinishesSo}
 use Rattle.pj_server.specs.Played.{history_entries, IsRead, bad_line_text, TellsBadLine, RunsSo, EndsSo}
@@ -104,16 +106,25 @@ OnErr-any (Err e) h = h
 
 -- ---- one line after the other
 
-pub RunsLines-none : (log : Log) (names : List (List ℕ)) (lines : List ScriptLine) (a : Option (List ℕ))
-    → RunsLines Finished 0 log log names lines a a
-RunsLines-none log names lines a = record { replies = []; run = refl; limit = refl; written = Appends-nil a }
+pub RunsLines-none : (told : Bool) (log : Log) (names : List (List ℕ)) (lines : List ScriptLine)
+    (a : Option (List ℕ)) (was : ℕ)
+    → RunsLines told Finished 0 log log names lines a a was was
+RunsLines-none told log names lines a was = record {
+  replies = [];
+  run = refl;
+  limit = refl;
+  blamed = AreBlamed-none was;
+  written = Appends-nil a;
+}
 
 pub RunsLines-more : RunGoesOn → TextsGoOn
-    → (end : End) (i : ℕ) (old mid new : Log) (names : List (List ℕ)) (lines : List ScriptLine)
-    (line : ScriptLine) (a b c : Option (List ℕ))
-    → i < length lines → line ≡ get_or lines i line → RunsLines Finished i old mid names lines a b
-    → RunsLine end mid new names (statement_of line) b c → RunsLines end (i + 1) old new names lines a c
-RunsLines-more goes_on texts end i old mid new names lines line a b c lt at so_far one =
+    → (told : Bool) (end : End) (i : ℕ) (old mid new : Log) (names : List (List ℕ)) (lines : List ScriptLine)
+    (line : ScriptLine) (a b c : Option (List ℕ)) (was between now : ℕ)
+    → i < length lines → line ≡ get_or lines i line
+    → RunsLines told Finished i old mid names lines a b was between
+    → RunsLine told end mid new names (statement_of line) b c between now
+    → RunsLines told end (i + 1) old new names lines a c was now
+RunsLines-more goes_on texts told end i old mid new names lines line a b c was between now lt at so_far one =
     let request = statement_of line in
     let requests = take i (map statement_of lines) in
     let more : take (i + 1) (map statement_of lines) ≡ requests ++ request ∷ [] =
@@ -121,11 +132,11 @@ RunsLines-more goes_on texts end i old mid new names lines line a b c lt at so_f
     ∙ ap (λ l. map statement_of (take i lines) ++ statement_of l ∷ []) (sym at)
     ∙ ap (λ xs. xs ++ request ∷ []) (sym (take-map statement_of i lines)) in
     let added = one.serves.0 in
-    let ran : IsStep old.limit mid.entries request added one.reply =
-    subst (λ l. IsStep l mid.entries request added one.reply) so_far.limit one.serves.2 in
+    let ran : IsStep told old.limit mid.entries request added one.reply =
+    subst (λ l. IsStep told l mid.entries request added one.reply) so_far.limit one.serves.2 in
     let run =
-    goes_on old.limit old.entries requests so_far.replies mid.entries request added one.reply so_far.run ran
-    in
+    goes_on told old.limit old.entries requests so_far.replies mid.entries request added one.reply so_far.run
+    ran in
     let shown : Shown = shown_at request one.reply in
     let text =
     Writes-after end a b c (replies_text names so_far.replies) (shown_text names shown) so_far.written
@@ -134,6 +145,7 @@ RunsLines-more goes_on texts end i old mid new names lines line a b c lt at so_f
       replies = so_far.replies ++ shown ∷ [];
       run = rw (more, one.serves.1.grown) run;
       limit = one.serves.1.limit ∙ so_far.limit;
+      blamed = AreBlamed-more so_far.replies shown was between now so_far.blamed one.blamed;
       written = rw (texts names so_far.replies shown) text;
     }
 
@@ -144,49 +156,51 @@ pub lines_rise : (low : ℕ) (lines : List ScriptLine) → RisesFrom low lines
 lines_rise low [] h = tt
 lines_rise low (line ∷ lines) h = (h.0, lines_rise line.line lines h.1)
 
-module _ (runs : RunsAreLegal) (parts : CutRunsAreLegal) (limit : ℕ) (wanted : Bool) (script : Script)
-    (log : Log) (rise : Rise 0 (request_lines (statements script))) (named : AreNamed script)
+module _ (runs : RunsAreLegal) (parts : CutRunsAreLegal) (told : Bool) (limit : ℕ) (wanted : Bool)
+    (script : Script) (log : Log) (was now : ℕ) (rise : Rise 0 (request_lines (statements script))) (named : AreNamed script)
     (regular : IsRegular log.entries) (few : length log.entries ≤ log.limit) where
   -- the history's text where some first lines are all
   abbrev tail : ℕ → List ℕ
   tail count = cond (wanted && nat_le (length script.lines) count) (history_text script.names log.entries) []
 
   part_of : (end : End) (count : ℕ) (a b : Option (List ℕ))
-      (r : RunsLines end count (empty_log limit) log script.names script.lines a b) (c : Option (List ℕ))
+      (r : RunsLines told end count (empty_log limit) log script.names script.lines a b was now) (c : Option (List ℕ))
       → AppendsPart a c (replies_text script.names r.replies ++ tail count)
-      → PartScript limit wanted script log.entries a c
+      → PartScript told limit wanted script log.entries a c was now
   part_of end count a b r c text =
       let legal =
-      parts limit count script r.replies log.entries rise named r.run regular (omega (arith, few, r.limit)) in
+      parts told limit count script r.replies log.entries rise named r.run regular (omega (arith, few, r.limit)) in
       record {
         lines = count;
         replies = r.replies;
         played = legal.0;
         kept = legal.1;
+        blamed = r.blamed;
         written = text;
       }
 
   stopped : (end : End) (count : ℕ) (a b : Option (List ℕ))
-      (r : RunsLines end count (empty_log limit) log script.names script.lines a b)
+      (r : RunsLines told end count (empty_log limit) log script.names script.lines a b was now)
       → AppendsPart a b (replies_text script.names r.replies)
-      → PartScript limit wanted script log.entries a b
+      → PartScript told limit wanted script log.entries a b was now
   stopped end count a b r text = part_of end count a b r b (AppendsPart-longer a b _ (tail count) text)
 
   all_of : (count : ℕ) (a b : Option (List ℕ))
-      (r : RunsLines Finished count (empty_log limit) log script.names script.lines a b) (c : Option (List ℕ))
+      (r : RunsLines told Finished count (empty_log limit) log script.names script.lines a b was now) (c : Option (List ℕ))
       → count ≡ length script.lines
       → Appends b c (cond wanted (history_text script.names log.entries) [])
-      → WholeScript limit wanted script log.entries a c
+      → WholeScript told limit wanted script log.entries a c was now
   all_of count a b r c all text =
       let same : take count (statements script) ≡ statements script =
       take_all count (statements script) (omega (arith, length-map script.lines statement_of)) in
       let run = rw same at r.run in
       let legal =
-      runs limit script r.replies log.entries rise named run regular (omega (arith, few, r.limit)) in
+      runs told limit script r.replies log.entries rise named run regular (omega (arith, few, r.limit)) in
       record {
         replies = r.replies;
         played = legal.0;
         kept = legal.1;
+        blamed = r.blamed;
         written = Appends-trans a b c _ _ r.written text;
       }
 
@@ -199,10 +213,10 @@ module _ (runs : RunsAreLegal) (parts : CutRunsAreLegal) (limit : ℕ) (wanted :
 
   -- the history's text behind all the replies
   with_history : (end : End) (count : ℕ) (a b c : Option (List ℕ))
-      (r : RunsLines Finished count (empty_log limit) log script.names script.lines a b)
+      (r : RunsLines told Finished count (empty_log limit) log script.names script.lines a b was now)
       → count ≡ length script.lines → wanted ≡ true
       → Writes end b c (history_text script.names log.entries)
-      → ScriptEnds end limit wanted script log.entries a c
+      → ScriptEnds end told limit wanted script log.entries a c was now
   with_history Finished count a b c r all wish h =
       let whole_text : cond wanted (history_text script.names log.entries) []
       ≡ history_text script.names log.entries =
@@ -222,23 +236,23 @@ module _ (runs : RunsAreLegal) (parts : CutRunsAreLegal) (limit : ℕ) (wanted :
   with_history TooLarge count a b c r all wish h = absurd h
 
   by_wish : (lines end : End) (count : ℕ) (a b c : Option (List ℕ)) (asked : Bool)
-      → (r : RunsLines lines count (empty_log limit) log script.names script.lines a b)
+      → (r : RunsLines told lines count (empty_log limit) log script.names script.lines a b was now)
       → (lines ≡ Finished → count ≡ length script.lines)
       → wanted ≡ asked → FinishesSo lines end asked b c (history_text script.names log.entries)
-      → ScriptEnds end limit wanted script log.entries a c
+      → ScriptEnds end told limit wanted script log.entries a c was now
   by_wish Finished end count a b c true r all wish h = with_history end count a b c r (all refl) wish h
   by_wish Finished end count a b c false r all wish h =
       let none : cond wanted (history_text script.names log.entries) [] ≡ [] =
       ap (λ w. cond w (history_text script.names log.entries) []) wish in
-      subst (λ e. ScriptEnds e limit wanted script log.entries a c) (sym h.0)
+      subst (λ e. ScriptEnds e told limit wanted script log.entries a c was now) (sym h.0)
       (all_of count a b r c (all refl) (rw (none, h.1) (Appends-nil b)))
   by_wish SinkFailed end count a b c asked r all is h =
-      subst (λ e. ScriptEnds e limit wanted script log.entries a c) (sym h.0)
-      (subst (PartScript limit wanted script log.entries a) (sym h.1)
+      subst (λ e. ScriptEnds e told limit wanted script log.entries a c was now) (sym h.0)
+      (subst (λ d. PartScript told limit wanted script log.entries a d was now) (sym h.1)
       (stopped SinkFailed count a b r r.written))
   by_wish NoMemory end count a b c asked r all is h =
-      subst (λ e. ScriptEnds e limit wanted script log.entries a c) (sym h.0)
-      (subst (PartScript limit wanted script log.entries a) (sym h.1)
+      subst (λ e. ScriptEnds e told limit wanted script log.entries a c was now) (sym h.0)
+      (subst (λ d. PartScript told limit wanted script log.entries a d was now) (sym h.1)
       (stopped NoMemory count a b r r.written))
   by_wish (BadLine line) end count a b c asked r all is h = absurd r.written
   by_wish Usage end count a b c asked r all is h = absurd r.written
@@ -247,28 +261,29 @@ module _ (runs : RunsAreLegal) (parts : CutRunsAreLegal) (limit : ℕ) (wanted :
 
   -- the lines, and then the history's text, make the whole
   pub script_ends : (lines end : End) (count : ℕ) (a b c : Option (List ℕ))
-      (r : RunsLines lines count (empty_log limit) log script.names script.lines a b)
+      (r : RunsLines told lines count (empty_log limit) log script.names script.lines a b was now)
       → (lines ≡ Finished → count ≡ length script.lines)
       → FinishesSo lines end wanted b c (history_text script.names log.entries)
-      → ScriptEnds end limit wanted script log.entries a c
+      → ScriptEnds end told limit wanted script log.entries a c was now
   script_ends lines end count a b c r all h = by_wish lines end count a b c wanted r all refl h
 
 -- ---- the bytes of a script
 
-pub runs_script : (end : End) (limit : ℕ) (wanted : Bool) (bytes : List ℕ) (script : Script) (h : List Entry)
-    (a b : Option (List ℕ))
+pub runs_script : (end : End) (told : Bool) (limit : ℕ) (wanted : Bool) (bytes : List ℕ) (script : Script) (h : List Entry)
+    (a b : Option (List ℕ)) (was now : ℕ)
     → IsScript Play bytes script
-    → ScriptEnds end limit wanted script h a b → RunsSo end limit wanted bytes h a b
-runs_script Finished limit wanted bytes script h a b spelled e =
+    → ScriptEnds end told limit wanted script h a b was now → RunsSo end told limit wanted bytes h a b was now
+runs_script Finished told limit wanted bytes script h a b was now spelled e =
     record {
       script = script;
       spelled = spelled;
       replies = e.replies;
       played = e.played;
       kept = e.kept;
+      blamed = e.blamed;
       written = e.written;
     }
-runs_script SinkFailed limit wanted bytes script h a b spelled e =
+runs_script SinkFailed told limit wanted bytes script h a b was now spelled e =
     inr (record {
       script = script;
       spelled = spelled;
@@ -276,9 +291,10 @@ runs_script SinkFailed limit wanted bytes script h a b spelled e =
       replies = e.replies;
       played = e.played;
       kept = e.kept;
+      blamed = e.blamed;
       written = e.written;
     })
-runs_script NoMemory limit wanted bytes script h a b spelled e =
+runs_script NoMemory told limit wanted bytes script h a b was now spelled e =
     inr (inr (record {
       script = script;
       spelled = spelled;
@@ -286,63 +302,65 @@ runs_script NoMemory limit wanted bytes script h a b spelled e =
       replies = e.replies;
       played = e.played;
       kept = e.kept;
+      blamed = e.blamed;
       written = e.written;
     }))
-runs_script (BadLine line) limit wanted bytes script h a b spelled e = absurd e
-runs_script Usage limit wanted bytes script h a b spelled e = absurd e
-runs_script SourceFailed limit wanted bytes script h a b spelled e = absurd e
-runs_script TooLarge limit wanted bytes script h a b spelled e = absurd e
+runs_script (BadLine line) told limit wanted bytes script h a b was now spelled e = absurd e
+runs_script Usage told limit wanted bytes script h a b was now spelled e = absurd e
+runs_script SourceFailed told limit wanted bytes script h a b was now spelled e = absurd e
+runs_script TooLarge told limit wanted bytes script h a b was now spelled e = absurd e
 
-pub runs_bad_line : (end : End) (limit : ℕ) (wanted : Bool) (bytes : List ℕ) (line : ℕ)
-    (a b : Option (List ℕ))
+pub runs_bad_line : (end : End) (told : Bool) (limit : ℕ) (wanted : Bool) (bytes : List ℕ) (line : ℕ)
+    (a b : Option (List ℕ)) (was now : ℕ)
     → IsBadLine Play bytes line
-    → TellsLine end line a b → RunsSo end limit wanted bytes [] a b
-runs_bad_line (BadLine told) limit wanted bytes line a b bad e =
+    → TellsLine end line a b → RunsSo end told limit wanted bytes [] a b was now
+runs_bad_line (BadLine first) told limit wanted bytes line a b was now bad e =
     subst (λ n. TellsBadLine n bytes [] a b) (sym e.0) (record { bad = bad; none = refl; written = e.1 })
-runs_bad_line SinkFailed limit wanted bytes line a b bad e =
+runs_bad_line SinkFailed told limit wanted bytes line a b was now bad e =
     inl (record { line = line; bad = bad; none = refl; written = e })
-runs_bad_line NoMemory limit wanted bytes line a b bad e =
+runs_bad_line NoMemory told limit wanted bytes line a b was now bad e =
     inr (inl (record { line = line; bad = bad; none = refl; written = e }))
-runs_bad_line Finished limit wanted bytes line a b bad e = absurd e
-runs_bad_line Usage limit wanted bytes line a b bad e = absurd e
-runs_bad_line SourceFailed limit wanted bytes line a b bad e = absurd e
-runs_bad_line TooLarge limit wanted bytes line a b bad e = absurd e
+runs_bad_line Finished told limit wanted bytes line a b was now bad e = absurd e
+runs_bad_line Usage told limit wanted bytes line a b was now bad e = absurd e
+runs_bad_line SourceFailed told limit wanted bytes line a b was now bad e = absurd e
+runs_bad_line TooLarge told limit wanted bytes line a b was now bad e = absurd e
 
-pub runs_nothing : (limit : ℕ) (wanted : Bool) (bytes : List ℕ) (a : Option (List ℕ))
-    → RunsSo NoMemory limit wanted bytes [] a a
-runs_nothing limit wanted bytes a = inl (record { none = refl; quiet = Appends-nil a })
+pub runs_nothing : (told : Bool) (limit : ℕ) (wanted : Bool) (bytes : List ℕ) (a : Option (List ℕ)) (was now : ℕ)
+    → RunsSo NoMemory told limit wanted bytes [] a a was now
+runs_nothing told limit wanted bytes a was now = inl (record { none = refl; quiet = Appends-nil a })
 
 -- ---- the whole call
 
-pub ends_read : (end : End) (wish : Option Bool) (wanted : Bool) (bytes : List ℕ)
-    (left rest : Option (List ℕ)) (h : List Entry) (a b : Option (List ℕ))
+pub ends_read : (end : End) (told : Bool) (wish : Option Bool) (wanted : Bool) (bytes : List ℕ)
+    (left rest : Option (List ℕ)) (h : List Entry) (a b : Option (List ℕ)) (was now : ℕ)
     → wish ≡ Some wanted → IsRead left rest bytes
-    → RunsSo end history_entries wanted bytes h a b → EndsSo end wish left rest h a b
-ends_read Finished wish wanted bytes left rest h a b wished read run =
+    → RunsSo end told history_entries wanted bytes h a b was now → EndsSo end told wish left rest h a b was now
+ends_read Finished told wish wanted bytes left rest h a b was now wished read run =
     record { wanted = wanted; wished = wished; bytes = bytes; read = read; run = run }
-ends_read (BadLine line) wish wanted bytes left rest h a b wished read run =
+ends_read (BadLine line) told wish wanted bytes left rest h a b was now wished read run =
     record { wanted = wanted; wished = wished; bytes = bytes; read = read; run = run }
-ends_read SinkFailed wish wanted bytes left rest h a b wished read run =
+ends_read SinkFailed told wish wanted bytes left rest h a b was now wished read run =
     record { wanted = wanted; wished = wished; bytes = bytes; read = read; run = run }
-ends_read NoMemory wish wanted bytes left rest h a b wished read run =
+ends_read NoMemory told wish wanted bytes left rest h a b was now wished read run =
     inr (inr (record { wanted = wanted; wished = wished; bytes = bytes; read = read; run = run }))
-ends_read Usage wish wanted bytes left rest h a b wished read run = absurd run
-ends_read SourceFailed wish wanted bytes left rest h a b wished read run = absurd run
-ends_read TooLarge wish wanted bytes left rest h a b wished read run = absurd run
+ends_read Usage told wish wanted bytes left rest h a b was now wished read run = absurd run
+ends_read SourceFailed told wish wanted bytes left rest h a b was now wished read run = absurd run
+ends_read TooLarge told wish wanted bytes left rest h a b was now wished read run = absurd run
 
 -- ---- the parts of one line
 
 -- a line whose body is this one
-pub runs_line : (end : End) (old new : Log) (names : List (List ℕ)) (line : ScriptLine)
-    (body name text : List ℕ) (reply : Reply) (a b : Option (List ℕ))
+pub runs_line : (told : Bool) (end : End) (old new : Log) (names : List (List ℕ)) (line : ScriptLine)
+    (body name text : List ℕ) (reply : Reply) (a b : Option (List ℕ)) (was now : ℕ)
     → body ≡ body_of line.act
-    → Serves old new (whole line.line line.name body) reply
+    → Serves told old new (whole line.line line.name body) reply → IsBlamed reply was now
     → text ≡ reply_text line.line name reply → name_at names line.name ≡ name → Writes end a b text
-    → RunsLine end old new names (statement_of line) a b
-runs_line end old new names line body name text reply a b act serves is named written =
+    → RunsLine told end old new names (statement_of line) a b was now
+runs_line told end old new names line body name text reply a b was now act serves blamed is named written =
     let same : whole line.line line.name body ≡ statement_of line = ap (whole line.line line.name) act in
     record {
       reply = reply;
-      serves = subst (λ s. Serves old new s reply) same serves;
+      serves = subst (λ s. Serves told old new s reply) same serves;
+      blamed = blamed;
       written = subst (Writes end a b) (is ∙ ap (λ n. reply_text line.line n reply) (sym named)) written;
     }

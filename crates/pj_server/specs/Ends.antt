@@ -10,6 +10,7 @@ use Rattle.pj_legal.specs.Full.{KeepsLimit}
 use Rattle.pj_legal.specs.Run.{cut}
 use Rattle.pj_server.specs.declared.ending.End.{End}
 use Rattle.pj_server.specs.declared.ending.End.TheVariants as ends
+use Rattle.pj_server.specs.PortFaults.{AreBlamed}
 use Rattle.pj_server.specs.Played.{bad_line_text, output, output_of_part}
 use Rattle.pj_server.specs.RunLines.{Writes}
 
@@ -25,31 +26,37 @@ TellsLine ends.SourceFailed line before after = ⊥
 TellsLine ends.TooLarge line before after = ⊥
 
 -- the whole script was played
-pub record WholeScript (limit : ℕ) (wanted : Bool) (script : Script) (h : List Entry)
-    (before after : Option (List ℕ)) : Type 0 where
+pub record WholeScript (told : Bool) (limit : ℕ) (wanted : Bool) (script : Script) (h : List Entry)
+    (before after : Option (List ℕ)) (was now : ℕ) : Type 0 where
   pub replies : List Shown
-  pub played : IsPlayed script h replies
+  pub played : IsPlayed told script h replies
   pub kept : KeepsLimit limit script h replies
+  pub blamed : AreBlamed replies was now
   pub written : Appends before after (output wanted script h replies)
 
 -- some of its lines were
-pub record PartScript (limit : ℕ) (wanted : Bool) (script : Script) (h : List Entry)
-    (before after : Option (List ℕ)) : Type 0 where
+pub record PartScript (told : Bool) (limit : ℕ) (wanted : Bool) (script : Script) (h : List Entry)
+    (before after : Option (List ℕ)) (was now : ℕ) : Type 0 where
   pub lines : ℕ
   pub replies : List Shown
-  pub played : IsPlayed (cut lines script) h replies
+  pub played : IsPlayed told (cut lines script) h replies
   pub kept : KeepsLimit limit (cut lines script) h replies
+  pub blamed : AreBlamed replies was now
   pub written : AppendsPart before after (output_of_part lines wanted script h replies)
 
 -- a script was played whole, or in part
-abbrev pub ScriptEnds : End → ℕ → Bool → Script → List Entry → Option (List ℕ) → Option (List ℕ) → Type 0
-ScriptEnds ends.Finished limit wanted script h before after = WholeScript limit wanted script h before after
-ScriptEnds ends.SinkFailed limit wanted script h before after = PartScript limit wanted script h before after
-ScriptEnds ends.NoMemory limit wanted script h before after = PartScript limit wanted script h before after
-ScriptEnds (ends.BadLine line) limit wanted script h before after = ⊥
-ScriptEnds ends.Usage limit wanted script h before after = ⊥
-ScriptEnds ends.SourceFailed limit wanted script h before after = ⊥
-ScriptEnds ends.TooLarge limit wanted script h before after = ⊥
+abbrev pub ScriptEnds : End → Bool → ℕ → Bool → Script → List Entry → Option (List ℕ) → Option (List ℕ) → ℕ → ℕ
+    → Type 0
+ScriptEnds ends.Finished told limit wanted script h before after was now =
+    WholeScript told limit wanted script h before after was now
+ScriptEnds ends.SinkFailed told limit wanted script h before after was now =
+    PartScript told limit wanted script h before after was now
+ScriptEnds ends.NoMemory told limit wanted script h before after was now =
+    PartScript told limit wanted script h before after was now
+ScriptEnds (ends.BadLine line) told limit wanted script h before after was now = ⊥
+ScriptEnds ends.Usage told limit wanted script h before after was now = ⊥
+ScriptEnds ends.SourceFailed told limit wanted script h before after was now = ⊥
+ScriptEnds ends.TooLarge told limit wanted script h before after was now = ⊥
 
 -- the text was written where the lines ended well and it is wanted, and else nothing
 abbrev pub FinishesSo : End → End → Bool → Option (List ℕ) → Option (List ℕ) → List ℕ → Type 0

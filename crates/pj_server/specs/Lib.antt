@@ -1,6 +1,8 @@
 pub mod Store
 pub mod State
+pub mod Refusals
 pub mod Moves
+pub mod PortFaults
 pub mod Played
 pub mod Status
 pub mod RunLines
@@ -15,6 +17,7 @@ pub use Rattle.pj_legal.specs.Texts
 pub use Rattle.pj_journal.specs.History
 pub use Rattle.pj_journal.specs.Log
 pub use Rattle.pj_script.specs.Lines
+pub use Rattle.pj_journal.specs.Parts
 pub use Rattle.pj_io.specs.Faults
 pub use Rattle.pj_io.specs.Transfers
 pub use Rattle.pj_words.specs.Words

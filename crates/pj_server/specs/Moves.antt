@@ -1,7 +1,8 @@
 -- What a statement's moves do to the journal.
-use Rattle.std.specs.Prelude.{◌≡◌, ◌<◌, ℕ, ◌+◌, ◌⊎◌, List, [], ◌∷◌, ◌++◌, length, Some, slice_get}
+use Rattle.std.specs.Prelude.{◌≡◌, ◌<◌, ℕ, ◌+◌, ◌⊎◌, Bool, false, List, [], ◌∷◌, ◌++◌, length, Some, slice_get}
 use Rattle.pj_value.specs.Rows.{HaveKinds}
 use Rattle.pj_expr.specs.declared.table.Table.{Table}
+use Rattle.pj_expr.specs.declared.query.Query.{Query}
 use Rattle.pj_journal.specs.declared.entry.What.{What}
 use Rattle.pj_journal.specs.declared.entry.What.TheVariants as whats
 use Rattle.pj_journal.specs.declared.entry.Entry.{Entry}
@@ -11,13 +12,17 @@ use Rattle.pj_journal.specs.Log.{Log}
 use Rattle.pj_journal.specs.Moves.{moves_from}
 use Rattle.pj_bind.specs.declared.types.Bound.{Bound}
 use Rattle.pj_bind.specs.declared.types.Bound.TheVariants as bounds
+use Rattle.pj_bind.specs.declared.types.PartName.{PartName}
+use Rattle.pj_bind.specs.declared.types.SourceName.{SourceName}
+use Rattle.pj_bind.specs.declared.types.Refusal.TheVariants.{Damaged}
 use Rattle.pj_legal.specs.declared.reply.Reply.{Reply}
+use Rattle.pj_legal.specs.declared.reply.Reply.TheVariants.{Refused}
 use Rattle.pj_bind.specs.declared.binding.BindFault.{BindFault}
 use Rattle.pj_bind.specs.declared.binding.BindFault.TheVariants as faults
 use Rattle.pj_bind.specs.Binding.{IsUnknown, table_limit}
 use Rattle.pj_legal.specs.Bodies.{IsBodyRefusal}
 use Rattle.pj_legal.specs.Statements.{Request, whole}
-use Rattle.pj_legal.specs.Forms.{entry_of, BoundForm, MayStarve, MovesOn, no_memory, history_full}
+use Rattle.pj_legal.specs.Forms.{entry_of, BoundForm, MayFail, MovesOn, no_memory, history_full, store_fault}
 use Rattle.pj_legal.specs.Full.{HasNext}
 use Rattle.pj_legal.specs.Run.{IsStep, course}
 use Rattle.pj_server.specs.declared.server.By.{By}
@@ -32,9 +37,9 @@ pub record Adds (old new : Log) (added : List Entry) : Type 0 where
   pub limit : new.limit ≡ old.limit
 
 -- the statement made its moves and got its reply
-abbrev pub Serves : Log → Log → Request → Reply → Type 0
-Serves old new request reply =
-    (added : List Entry) × Adds old new added × IsStep old.limit old.entries request added reply
+abbrev pub Serves : Bool → Log → Log → Request → Reply → Type 0
+Serves told old new request reply =
+    (added : List Entry) × Adds old new added × IsStep told old.limit old.entries request added reply
 
 -- the bound statement fits these tables
 abbrev pub BoundFits : List Table → Bound → Type 0
@@ -46,28 +51,52 @@ BoundFits tables (bounds.Insert number rows) =
 BoundFits tables (bounds.Select number query) =
     (table : Table) × (slice_get tables number ≡ Some table) × FitsQuery (kinds_of table) query
 
+-- a first move of this sort
+abbrev pub BoundMoves : (Bound → What → Type 0) → Request → Bound → List Entry → Type 0
+BoundMoves sort request bound added =
+    (what : What) × sort bound what × (added ≡ entry_of request what ∷ [])
+
 -- no move, or a first one of this sort
 abbrev pub BoundStops : (Bound → What → Type 0) → Request → Bound → List Entry → Type 0
-BoundStops sort request bound added =
-    (added ≡ []) ⊎ ((what : What) × sort bound what × (added ≡ entry_of request what ∷ []))
+BoundStops sort request bound added = (added ≡ []) ⊎ BoundMoves sort request bound added
 
 -- these entries fill the journal
 abbrev pub Fills : Log → List Entry → Type 0
 Fills old added = length old.entries + length added ≡ old.limit
 
--- the bound statement made its moves, or stopped early: it was out of memory, and the journal had room for a
--- further move; or the journal was full
-abbrev pub BoundDone : Log → Request → Bound → List Entry → Reply → Type 0
-BoundDone old request bound added reply =
-    BoundForm old.entries request bound (course old.entries added reply)
-    ⊎ ((reply ≡ no_memory) × BoundStops MayStarve request bound added
-    × (Fills old added → HasNext (moves_from old.entries added) → ⊥))
+-- where these entries fill the journal, the statement has no move to make
+abbrev pub LeavesRoom : Log → List Entry → Type 0
+LeavesRoom old added = Fills old added → HasNext (moves_from old.entries added) → ⊥
+
+-- a SELECT met a damaged granule, and blobs don't tell their bytes
+pub record MeetsDamage (told : Bool) (request : Request) (bound : Bound) (added : List Entry) (reply : Reply)
+    : Type 0 where
+  pub untold : told ≡ false
+  pub table : ℕ
+  pub query : Query
+  pub bound_is : bound ≡ bounds.Select table query
+  pub moves : added ≡ entry_of request (whats.Looked table) ∷ []
+  pub part : PartName
+  pub source : SourceName
+  pub column : ℕ
+  pub granule : ℕ
+  pub at : ℕ
+  pub reply_is : reply ≡ Refused (Damaged part source column granule at)
+
+-- the bound statement made its moves, or stopped early: it was out of memory, or its port failed, and the journal
+-- had room for a further move; or the journal was full; or a granule was damaged
+abbrev pub BoundDone : Bool → Log → Request → Bound → List Entry → Reply → Type 0
+BoundDone told old request bound added reply =
+    BoundForm told old.entries request bound (course old.entries added reply)
+    ⊎ ((reply ≡ no_memory) × BoundStops MayFail request bound added × LeavesRoom old added)
     ⊎ ((reply ≡ history_full) × BoundStops MovesOn request bound added × Fills old added)
+    ⊎ ((reply ≡ store_fault) × BoundMoves MayFail request bound added × LeavesRoom old added)
+    ⊎ MeetsDamage told request bound added reply
 
 -- a bound statement was done
-abbrev pub Does : Log → Log → Request → Bound → Reply → Type 0
-Does old new request bound reply =
-    (added : List Entry) × Adds old new added × BoundDone old request bound added reply
+abbrev pub Does : Bool → Log → Log → Request → Bound → Reply → Type 0
+Does told old new request bound reply =
+    (added : List Entry) × Adds old new added × BoundDone told old request bound added reply
 
 -- the move changes neither tables nor rows
 abbrev pub ChangesNothing : What → Type 0

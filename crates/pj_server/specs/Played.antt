@@ -1,4 +1,5 @@
--- What `play` read, wrote and kept, by how it ended (docs/MODEL.md, "The headline").
+-- What `play` read, wrote and kept, by how it ended (docs/MODEL.md, "The headline"). `told` is whether the blobs of
+-- its port tell their bytes; `was` and `now` are how many faults the port had before and has after.
 use Rattle.std.specs.Prelude.{◌≡◌, ℕ, ◌≤◌, ◌⊎◌, Bool, ◌&&◌, nat_le, List, [], ◌++◌}
 use Rattle.std.specs.Prelude.{length, Option, Some, None, if◌then◌else◌, codes}
 use Rattle.std.specs.Fmt.{decimal}
@@ -13,6 +14,7 @@ use Rattle.pj_legal.specs.Legal.{IsPlayed}
 use Rattle.pj_legal.specs.Full.{KeepsLimit}
 use Rattle.pj_legal.specs.Run.{cut}
 use Rattle.pj_legal.specs.Texts.{as_line, replies_text, history_text}
+use Rattle.pj_server.specs.PortFaults.{AreBlamed}
 use Rattle.pj_server.specs.declared.ending.End.{End}
 use Rattle.pj_server.specs.declared.ending.End.TheVariants as ends
 
@@ -64,48 +66,54 @@ output_of_part lines wanted script h replies =
     output (wanted && nat_le (length script.lines) lines) (cut lines script) h replies
 
 -- the bytes spell a script, the history is legal for it with these replies, as a single thread leaves it,
--- each tells a full journal where it was full, and their text was written
-pub record PlaysScript (limit : ℕ) (wanted : Bool) (bytes : List ℕ) (h : List Entry)
-    (before after : Option (List ℕ)) : Type 0 where
+-- each tells a full journal where it was full, the port's faults rose where replies say so, and the text of
+-- these was written
+pub record PlaysScript (told : Bool) (limit : ℕ) (wanted : Bool) (bytes : List ℕ) (h : List Entry)
+    (before after : Option (List ℕ)) (was now : ℕ) : Type 0 where
   pub script : Script
   pub spelled : IsScript Play bytes script
   pub replies : List Shown
-  pub played : IsPlayed script h replies
+  pub played : IsPlayed told script h replies
   pub kept : KeepsLimit limit script h replies
+  pub blamed : AreBlamed replies was now
   pub written : Appends before after (output wanted script h replies)
 
 -- the bytes spell a script, the same holds of it cut after some lines, and a proper prefix of the text of
 -- that was written
-pub record PlaysPart (limit : ℕ) (wanted : Bool) (bytes : List ℕ) (h : List Entry)
-    (before after : Option (List ℕ)) : Type 0 where
+pub record PlaysPart (told : Bool) (limit : ℕ) (wanted : Bool) (bytes : List ℕ) (h : List Entry)
+    (before after : Option (List ℕ)) (was now : ℕ) : Type 0 where
   pub script : Script
   pub spelled : IsScript Play bytes script
   pub lines : ℕ
   pub replies : List Shown
-  pub played : IsPlayed (cut lines script) h replies
+  pub played : IsPlayed told (cut lines script) h replies
   pub kept : KeepsLimit limit (cut lines script) h replies
+  pub blamed : AreBlamed replies was now
   pub written : AppendsPart before after (output_of_part lines wanted script h replies)
 
 -- what holds of the bytes, the history and what was written, by how the run of the bytes ended
-abbrev pub RunsSo : End → ℕ → Bool → List ℕ → List Entry → Option (List ℕ) → Option (List ℕ) → Type 0
-RunsSo ends.Finished limit wanted bytes h before after = PlaysScript limit wanted bytes h before after
-RunsSo (ends.BadLine line) limit wanted bytes h before after = TellsBadLine line bytes h before after
-RunsSo ends.SinkFailed limit wanted bytes h before after =
-    TellsPart bytes h before after ⊎ PlaysPart limit wanted bytes h before after
-RunsSo ends.NoMemory limit wanted bytes h before after =
-    DoesNothing h before after ⊎ TellsPart bytes h before after ⊎ PlaysPart limit wanted bytes h before after
-RunsSo ends.Usage limit wanted bytes h before after = ⊥
-RunsSo ends.SourceFailed limit wanted bytes h before after = ⊥
-RunsSo ends.TooLarge limit wanted bytes h before after = ⊥
+abbrev pub RunsSo : End → Bool → ℕ → Bool → List ℕ → List Entry → Option (List ℕ) → Option (List ℕ) → ℕ → ℕ → Type 0
+RunsSo ends.Finished told limit wanted bytes h before after was now =
+    PlaysScript told limit wanted bytes h before after was now
+RunsSo (ends.BadLine line) told limit wanted bytes h before after was now =
+    TellsBadLine line bytes h before after
+RunsSo ends.SinkFailed told limit wanted bytes h before after was now =
+    TellsPart bytes h before after ⊎ PlaysPart told limit wanted bytes h before after was now
+RunsSo ends.NoMemory told limit wanted bytes h before after was now =
+    DoesNothing h before after ⊎ TellsPart bytes h before after
+    ⊎ PlaysPart told limit wanted bytes h before after was now
+RunsSo ends.Usage told limit wanted bytes h before after was now = ⊥
+RunsSo ends.SourceFailed told limit wanted bytes h before after was now = ⊥
+RunsSo ends.TooLarge told limit wanted bytes h before after was now = ⊥
 
 -- the arguments are taken, all bytes were read, and their run ended so
-pub record Reads (end : End) (wish : Option Bool) (left rest : Option (List ℕ)) (h : List Entry)
-    (before after : Option (List ℕ)) : Type 0 where
+pub record Reads (end : End) (told : Bool) (wish : Option Bool) (left rest : Option (List ℕ)) (h : List Entry)
+    (before after : Option (List ℕ)) (was now : ℕ) : Type 0 where
   pub wanted : Bool
   pub wished : wish ≡ Some wanted
   pub bytes : List ℕ
   pub read : IsRead left rest bytes
-  pub run : RunsSo end history_entries wanted bytes h before after
+  pub run : RunsSo end told history_entries wanted bytes h before after was now
 
 -- the arguments are taken
 abbrev pub IsTaken : Option Bool → Type 0
@@ -113,19 +121,31 @@ IsTaken wish = (wanted : Bool) × (wish ≡ Some wanted)
 
 -- what holds by how the call ended: `left` and `rest` is what the source had left before and after, `before`
 -- and `after` what the sink had taken
-abbrev pub EndsSo : End → Option Bool → Option (List ℕ) → Option (List ℕ) → List Entry → Option (List ℕ)
-    → Option (List ℕ) → Type 0
-EndsSo ends.Usage wish left rest h before after =
+abbrev pub EndsSo : End → Bool → Option Bool → Option (List ℕ) → Option (List ℕ) → List Entry → Option (List ℕ)
+    → Option (List ℕ) → ℕ → ℕ → Type 0
+EndsSo ends.Usage told wish left rest h before after was now =
     (wish ≡ None) × Consumes left rest [] × DoesNothing h before after
-EndsSo ends.SourceFailed wish left rest h before after =
+EndsSo ends.SourceFailed told wish left rest h before after was now =
     IsTaken wish × TookAtMost script_bytes left rest × DoesNothing h before after
-EndsSo ends.TooLarge wish left rest h before after =
+EndsSo ends.TooLarge told wish left rest h before after was now =
     IsTaken wish × TookTooMuch script_bytes left rest × DoesNothing h before after
-EndsSo ends.NoMemory wish left rest h before after =
+EndsSo ends.NoMemory told wish left rest h before after was now =
     (Consumes left rest [] × DoesNothing h before after)
     ⊎ (IsTaken wish × TookAtMost script_bytes left rest × DoesNothing h before after)
-    ⊎ Reads ends.NoMemory wish left rest h before after
-EndsSo (ends.BadLine line) wish left rest h before after =
-    Reads (ends.BadLine line) wish left rest h before after
-EndsSo ends.SinkFailed wish left rest h before after = Reads ends.SinkFailed wish left rest h before after
-EndsSo ends.Finished wish left rest h before after = Reads ends.Finished wish left rest h before after
+    ⊎ Reads ends.NoMemory told wish left rest h before after was now
+EndsSo (ends.BadLine line) told wish left rest h before after was now =
+    Reads (ends.BadLine line) told wish left rest h before after was now
+EndsSo ends.SinkFailed told wish left rest h before after was now =
+    Reads ends.SinkFailed told wish left rest h before after was now
+EndsSo ends.Finished told wish left rest h before after was now =
+    Reads ends.Finished told wish left rest h before after was now
+
+-- with these ends nothing was run
+abbrev pub NeverRuns : End → Type 0
+NeverRuns ends.Usage = Unit {0}
+NeverRuns ends.SourceFailed = Unit {0}
+NeverRuns ends.TooLarge = Unit {0}
+NeverRuns (ends.BadLine line) = Unit {0}
+NeverRuns ends.SinkFailed = ⊥
+NeverRuns ends.NoMemory = ⊥
+NeverRuns ends.Finished = ⊥

@@ -1,5 +1,5 @@
 -- Lines of a script that were run, one after the other.
-use Rattle.std.specs.Prelude.{◌≡◌, ℕ, List, map, take, Option}
+use Rattle.std.specs.Prelude.{◌≡◌, ℕ, Bool, List, map, take, Option}
 use Rattle.std.specs.Io.KnownBytes.{Appends}
 use Rattle.pj_io.specs.Transfers.{AppendsPart}
 use Rattle.pj_script.specs.declared.types.ScriptLine.{ScriptLine}
@@ -10,6 +10,7 @@ use Rattle.pj_legal.specs.Run.{Run, shown_at}
 use Rattle.pj_legal.specs.Texts.{shown_text, replies_text}
 use Rattle.pj_server.specs.declared.ending.End.{End}
 use Rattle.pj_server.specs.declared.ending.End.TheVariants as ends
+use Rattle.pj_server.specs.PortFaults.{IsBlamed, AreBlamed}
 use Rattle.pj_server.specs.Moves.{Serves}
 
 -- all of a text was written, or a proper prefix of it, by how the write ended
@@ -22,17 +23,19 @@ Writes ends.Usage before after text = ⊥
 Writes ends.SourceFailed before after text = ⊥
 Writes ends.TooLarge before after text = ⊥
 
--- a statement was run, and its reply was written
-pub record RunsLine (end : End) (old new : Log) (names : List (List ℕ)) (request : Request)
-    (before after : Option (List ℕ)) : Type 0 where
+-- a statement was run over a port whose faults were so many and are so many now, and its reply was written
+pub record RunsLine (told : Bool) (end : End) (old new : Log) (names : List (List ℕ)) (request : Request)
+    (before after : Option (List ℕ)) (was now : ℕ) : Type 0 where
   pub reply : Reply
-  pub serves : Serves old new request reply
+  pub serves : Serves told old new request reply
+  pub blamed : IsBlamed reply was now
   pub written : Writes end before after (shown_text names (shown_at request reply))
 
 -- the first lines were run, and their replies were written
-pub record RunsLines (end : End) (count : ℕ) (old new : Log) (names : List (List ℕ)) (lines : List ScriptLine)
-    (before after : Option (List ℕ)) : Type 0 where
+pub record RunsLines (told : Bool) (end : End) (count : ℕ) (old new : Log) (names : List (List ℕ))
+    (lines : List ScriptLine) (before after : Option (List ℕ)) (was now : ℕ) : Type 0 where
   pub replies : List Shown
-  pub run : Run old.limit old.entries (take count (map statement_of lines)) replies new.entries
+  pub run : Run told old.limit old.entries (take count (map statement_of lines)) replies new.entries
   pub limit : new.limit ≡ old.limit
+  pub blamed : AreBlamed replies was now
   pub written : Writes end before after (replies_text names replies)

@@ -3,6 +3,7 @@
 
 mod ending;
 mod playing;
+mod refusals;
 mod runs;
 mod server;
 mod store;

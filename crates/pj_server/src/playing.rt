@@ -1,5 +1,5 @@
 //! The top call of `projplay`: from the bytes of a script to the bytes of its replies and the history of its
-//! run.
+//! run, with the parts of its tables in a port.
 ghost use Rattle.std.specs.Prelude.{◌≡◌, ℕ, ◌<◌, ◌≤◌, ◌⊎◌, List, [], ◌∷◌, length};
 ghost use Rattle.std.specs.Prelude.{map, Contains, Some, None, string_bytes, IfOk};
 ghost use Rattle.std.specs.List.{AllByRecursion};
@@ -15,7 +15,7 @@ ghost use Rattle.pj_legal.specs.Laws.{request_lines};
 ghost use Rattle.pj_legal.specs.Texts.{history_text as text_of_history};
 ghost use Rattle.pj_words.specs.Words.{wish_of};
 ghost use Rattle.pj_server.specs.Played.{script_bytes, history_entries, DoesNothing};
-ghost use Rattle.pj_server.specs.Played.{RunsSo, Reads, EndsSo, bad_line_text};
+ghost use Rattle.pj_server.specs.Played.{RunsSo, Reads, EndsSo, NeverRuns, bad_line_text};
 ghost use Rattle.pj_server.specs.Ends.{TellsLine, ScriptEnds, FinishesSo};
 ghost use Rattle.pj_server.specs.Status.{status_of};
 ghost use Rattle.pj_server.specs.declared.ending.End.TheVariants as ends;
@@ -27,6 +27,7 @@ use itoa::Buffer;
 use pj_io::{ReadFault, Sink, Source, read_all};
 use pj_journal::Journal;
 use pj_legal::{cut_runs, history_text, runs_are_legal};
+use pj_port::Port;
 use pj_script::types::{Script, ScriptMode};
 use pj_script::{ScriptFault, lines_rise, no_script_with_a_bad_line, script};
 use pj_value::NoMemory;
@@ -67,11 +68,12 @@ pub struct Played {
 /// statuses are 0 where the script was run and all was written, 2 for arguments that aren't taken, 4 where
 /// the source failed, 7 for too many bytes, 3 for a bad line, 5 where the sink failed, and 6 where the call
 /// itself was out of memory.
-pub fn play<R: Source, W: Sink>(
+pub fn play<R: Source, W: Sink, P: Port>(
     alloc: Global,
     arguments: &[String],
     source: &mut R,
     sink: &mut W,
+    port: &mut P,
 ) -> Ran
     // Nothing but the arguments decides this, where there is memory to read them.
     ensures usage { result.status ≡ 2 → wish_of (map string_bytes arguments.now) ≡ None }
@@ -87,28 +89,28 @@ pub fn play<R: Source, W: Sink>(
     // The source's bytes have a bad line, and the first such was told, whose number the end has.
     ensures bad_line { result.status ≡ 3
         → (line : ℕ) × (result.end ≡ End.BadLine line)
-        × Reads (ends.BadLine line) (wish_of (map string_bytes arguments.now)) (R.left source.old)
-        (R.left source.new)
-        result.history.entries (W.taken sink.old) (W.taken sink.new) }
+        × Reads (ends.BadLine line) P.Blob.tells (wish_of (map string_bytes arguments.now)) (R.left source.old)
+        (R.left source.new) result.history.entries (W.taken sink.old) (W.taken sink.new)
+        (P.faults port.old) (P.faults port.new) }
 
     // The headline: the source's bytes spell a script, the history is legal for it with these replies, and
     // their text was written.
     ensures done { result.status ≡ 0
-        → Reads ends.Finished (wish_of (map string_bytes arguments.now)) (R.left source.old)
-        (R.left source.new)
-        result.history.entries (W.taken sink.old) (W.taken sink.new) }
+        → Reads ends.Finished P.Blob.tells (wish_of (map string_bytes arguments.now)) (R.left source.old)
+        (R.left source.new) result.history.entries (W.taken sink.old) (W.taken sink.new)
+        (P.faults port.old) (P.faults port.new) }
 
     // The history is legal for the script cut after some lines, and a proper prefix of the text of that was
     // written; or a proper prefix of the text of a bad line was.
     ensures sink_failed { result.status ≡ 5 → Rose (W.faults sink.old) (W.faults sink.new) }
     ensures stopped { result.status ≡ 5
-        → Reads ends.SinkFailed (wish_of (map string_bytes arguments.now)) (R.left source.old)
-        (R.left source.new)
-        result.history.entries (W.taken sink.old) (W.taken sink.new) }
+        → Reads ends.SinkFailed P.Blob.tells (wish_of (map string_bytes arguments.now)) (R.left source.old)
+        (R.left source.new) result.history.entries (W.taken sink.old) (W.taken sink.new)
+        (P.faults port.old) (P.faults port.new) }
     ensures starved { result.status ≡ 6
-        → EndsSo ends.NoMemory (wish_of (map string_bytes arguments.now)) (R.left source.old)
-        (R.left source.new)
-        result.history.entries (W.taken sink.old) (W.taken sink.new) }
+        → EndsSo ends.NoMemory P.Blob.tells (wish_of (map string_bytes arguments.now)) (R.left source.old)
+        (R.left source.new) result.history.entries (W.taken sink.old) (W.taken sink.new)
+        (P.faults port.old) (P.faults port.new) }
 
     // Out of memory doesn't stand in for a source or a sink that failed.
     ensures source_blamed { R.faults source.old < R.faults source.new → result.status ≡ 4 }
@@ -143,9 +145,14 @@ pub fn play<R: Source, W: Sink>(
     ensures limit { result.history.limit ≡ history_entries }
     ensures source_later { R.faults source.old ≤ R.faults source.new }
     ensures sink_later { W.faults sink.old ≤ W.faults sink.new }
+
+    // The port's faults never fall, and where nothing was run the port isn't called.
+    ensures port_later { P.faults port.old ≤ P.faults port.new }
+    ensures uncalled { (result.status ≡ 2) ⊎ (result.status ≡ 3) ⊎ (result.status ≡ 4) ⊎ (result.status ≡ 7)
+        → port.new ≡ port.old }
 {
     no_script_with_a_bad_line();
-    let Played { end, history } = play_arguments(alloc, arguments, source, sink);
+    let Played { end, history } = play_arguments(alloc, arguments, source, sink, port);
     Ran {
         status: end.status(),
         end,
@@ -153,15 +160,16 @@ pub fn play<R: Source, W: Sink>(
     }
 }
 
-fn play_arguments<R: Source, W: Sink>(
+fn play_arguments<R: Source, W: Sink, P: Port>(
     alloc: Global,
     arguments: &[String],
     source: &mut R,
     sink: &mut W,
+    port: &mut P,
 ) -> Played
-    ensures ends { EndsSo result.end (wish_of (map string_bytes arguments.now)) (R.left source.old)
-        (R.left source.new)
-        result.history.entries (W.taken sink.old) (W.taken sink.new) }
+    ensures ends { EndsSo result.end P.Blob.tells (wish_of (map string_bytes arguments.now)) (R.left source.old)
+        (R.left source.new) result.history.entries (W.taken sink.old) (W.taken sink.new)
+        (P.faults port.old) (P.faults port.new) }
     ensures source_failed { result.end ≡ End.SourceFailed → Rose (R.faults source.old) (R.faults source.new) }
     ensures source_calm { (result.end ≡ End.SourceFailed → ⊥)
         → R.faults source.new ≡ R.faults source.old }
@@ -170,6 +178,8 @@ fn play_arguments<R: Source, W: Sink>(
     ensures source_later { R.faults source.old ≤ R.faults source.new }
     ensures sink_later { W.faults sink.old ≤ W.faults sink.new }
     ensures limit { result.history.limit ≡ HISTORY }
+    ensures port_later { P.faults port.old ≤ P.faults port.new }
+    ensures uncalled { NeverRuns result.end → port.new ≡ port.old }
 {
     let wanted = match wants_history(alloc, arguments) {
         Ok(wanted) => wanted,
@@ -177,7 +187,7 @@ fn play_arguments<R: Source, W: Sink>(
         Err(WordsFault::NoMemory) => return nothing(alloc, End::NoMemory),
     };
     match read_all(alloc, source, SCRIPT_BYTES) {
-        Ok(bytes) => play_bytes(alloc, HISTORY, wanted, bytes, sink),
+        Ok(bytes) => play_bytes(alloc, HISTORY, wanted, bytes, sink, port),
         Err(ReadFault::Failed) => nothing(alloc, End::SourceFailed),
         Err(ReadFault::TooLarge) => nothing(alloc, End::TooLarge),
         Err(ReadFault::NoMemory) => nothing(alloc, End::NoMemory),
@@ -198,26 +208,29 @@ fn nothing(alloc: Global, end: End) -> Played
 /// Runs the script that the bytes spell, with a journal of at most `limit` entries, or writes its bad line.
 /// `play` calls it with its own limit, and with the bytes that it read.
 #[tactic(auto, using(crate::proofs::PlayLemmas::runs_bad_line))]
-pub fn play_bytes<W: Sink>(
+pub fn play_bytes<W: Sink, P: Port>(
     alloc: Global,
     limit: u32,
     wanted: bool,
     bytes: Vec<u8>,
     sink: &mut W,
+    port: &mut P,
 ) -> Played
     requires { length bytes.items ≤ script_bytes }
-    ensures runs { RunsSo result.end limit wanted bytes.items result.history.entries (W.taken sink.old)
-        (W.taken sink.new) }
+    ensures runs { RunsSo result.end P.Blob.tells limit wanted bytes.items result.history.entries
+        (W.taken sink.old) (W.taken sink.new) (P.faults port.old) (P.faults port.new) }
     ensures sink_failed { result.end ≡ End.SinkFailed → Rose (W.faults sink.old) (W.faults sink.new) }
     ensures sink_calm { (result.end ≡ End.SinkFailed → ⊥) → W.faults sink.new ≡ W.faults sink.old }
     ensures sink_later { W.faults sink.old ≤ W.faults sink.new }
     ensures limit { result.history.limit ≡ limit }
+    ensures port_later { P.faults port.old ≤ P.faults port.new }
+    ensures uncalled { NeverRuns result.end → port.new ≡ port.old }
 {
     match script(alloc, bytes.as_slice(), ScriptMode::Play) {
         Ok(script) => {
             drop(bytes);
             lines_rise();
-            play_script(alloc, limit, wanted, &script, sink)
+            play_script(alloc, limit, wanted, &script, sink, port)
         }
         Err(ScriptFault::BadLine { line }) => Played {
             end: write_bad_line(alloc, line, sink),
@@ -259,29 +272,32 @@ fn bad_line(alloc: Global, line: u32) -> Result<Vec<u8>, NoMemory>
 
 /// Runs a script with a journal of at most `limit` entries, and writes its replies and, where it is wanted,
 /// the history's text.
-fn play_script<W: Sink>(
+fn play_script<W: Sink, P: Port>(
     alloc: Global,
     limit: u32,
     wanted: bool,
     script: &Script,
     sink: &mut W,
+    port: &mut P,
 ) -> Played
     requires rise { Rise 0 (request_lines (statements script.now)) }
     requires named { AllByRecursion (λ line. line.name < length script.now.names) script.now.lines }
-    ensures ends { ScriptEnds result.end limit wanted script.now result.history.entries (W.taken sink.old)
-        (W.taken sink.new) }
+    ensures ends { ScriptEnds result.end P.Blob.tells limit wanted script.now result.history.entries
+        (W.taken sink.old) (W.taken sink.new) (P.faults port.old) (P.faults port.new) }
     ensures sink_failed { result.end ≡ End.SinkFailed → Rose (W.faults sink.old) (W.faults sink.new) }
     ensures sink_calm { (result.end ≡ End.SinkFailed → ⊥) → W.faults sink.new ≡ W.faults sink.old }
     ensures sink_later { W.faults sink.old ≤ W.faults sink.new }
     ensures limit { result.history.limit ≡ limit }
+    ensures port_later { P.faults port.old ≤ P.faults port.new }
 {
-    let mut server = Server::new(alloc, limit);
+    let mut server = Server::<P>::new(alloc, limit);
     let lines = run_lines(
         alloc,
         &mut server,
         script.names.as_slice(),
         script.lines.as_slice(),
         sink,
+        port,
     );
     runs_are_legal();
     cut_runs();

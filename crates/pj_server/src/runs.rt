@@ -9,6 +9,7 @@ use crate::ending::End;
 use crate::server::{By, Server};
 use pj_io::{GiveFault, Sink, write_all};
 use pj_legal::{reply_text, run_goes_on, texts_go_on};
+use pj_port::Port;
 use pj_script::types::{Act, ScriptLine};
 use pj_value::Text;
 use std::alloc::Global;
@@ -37,16 +38,17 @@ fn body_of(act: &Act) -> &[u8]
 }
 
 /// Runs a line of a session of this name, and writes its reply.
-fn run_line<W: Sink>(
+fn run_line<W: Sink, P: Port>(
     alloc: Global,
-    server: &mut Server,
+    server: &mut Server<P>,
     names: &[Text],
     line: &ScriptLine,
     sink: &mut W,
+    port: &mut P,
 ) -> End
     requires { line.now.name < length names.now }
-    ensures run { RunsLine result server.old server.new names.now (statement_of line.now) (W.taken sink.old)
-        (W.taken sink.new) }
+    ensures run { RunsLine P.Blob.tells result server.old server.new names.now (statement_of line.now)
+        (W.taken sink.old) (W.taken sink.new) (P.faults port.old) (P.faults port.new) }
     ensures later { W.faults sink.old ≤ W.faults sink.new }
     ensures failed { result ≡ End.SinkFailed → Rose (W.faults sink.old) (W.faults sink.new) }
     ensures calm { (result ≡ End.SinkFailed → ⊥) → W.faults sink.new ≡ W.faults sink.old }
@@ -55,7 +57,7 @@ fn run_line<W: Sink>(
         session: line.name,
         line: line.line,
     };
-    let reply = server.statement(alloc, by, body_of(&line.act));
+    let reply = server.statement(alloc, port, by, body_of(&line.act));
     match reply_text(alloc, line.line, &names[line.name as usize], &reply) {
         Ok(text) => write_text(sink, text.as_slice()),
         Err(_) => End::NoMemory,
@@ -63,17 +65,18 @@ fn run_line<W: Sink>(
 }
 
 /// Runs lines in their order, up to the first whose reply could not be written whole.
-pub(crate) fn run_lines<W: Sink>(
+pub(crate) fn run_lines<W: Sink, P: Port>(
     alloc: Global,
-    server: &mut Server,
+    server: &mut Server<P>,
     names: &[Text],
     lines: &[ScriptLine],
     sink: &mut W,
+    port: &mut P,
 ) -> End
     requires { AllByRecursion (λ line. line.name < length names.now) lines.now }
     ensures run { (count : ℕ)
-        × RunsLines result count server.old server.new names.now lines.now (W.taken sink.old)
-        (W.taken sink.new)
+        × RunsLines P.Blob.tells result count server.old server.new names.now lines.now (W.taken sink.old)
+        (W.taken sink.new) (P.faults port.old) (P.faults port.new)
         × (result ≡ End.Finished → count ≡ length lines.now) }
     ensures later { W.faults sink.old ≤ W.faults sink.new }
     ensures failed { result ≡ End.SinkFailed → Rose (W.faults sink.old) (W.faults sink.new) }
@@ -82,7 +85,7 @@ pub(crate) fn run_lines<W: Sink>(
     run_goes_on();
     texts_go_on();
     'lines: for line in lines {
-        match run_line(alloc, server, names, line, sink) {
+        match run_line(alloc, server, names, line, sink, port) {
             End::Finished => {}
             end => return end,
         }

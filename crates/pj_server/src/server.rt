@@ -1,5 +1,6 @@
 //! The state of the server, and the moves that change it.
-ghost use Rattle.std.specs.Prelude.{◌≡◌, ◌<◌, ◌≤◌, ◌↔◌, List, [], ◌∷◌, length, IfOk, IfErr, OnOk, OnErr};
+ghost use Rattle.std.specs.Prelude.{◌≡◌, ◌<◌, ◌≤◌, ◌↔◌, List, [], ◌∷◌, length, IfOk, IfErr, OnOk, OnErr, IsErrOf};
+ghost use Rattle.pj_io.specs.Faults.{Rose};
 ghost use Rattle.pj_value.specs.Rows.{HaveKinds};
 ghost use Rattle.pj_expr.specs.declared.table.Table.{Table};
 ghost use Rattle.pj_journal.specs.History.{catalog, IsRegular, WhatFits};
@@ -9,15 +10,19 @@ ghost use Rattle.pj_bind.specs.Binding.{IsUnknown};
 ghost use Rattle.pj_legal.specs.Bodies.{BodyBinds};
 ghost use Rattle.pj_legal.specs.Statements.{whole};
 ghost use Rattle.pj_legal.specs.Forms.{entry_of};
+ghost use Rattle.pj_build.specs.declared.fault.BuildFault.TheVariants as build_faults;
 
-use crate::store::{Store, append};
+use crate::refusals::refusal_for;
+use crate::store::{Store, append, inserted_part};
 use pj_bind::types::{Bound, LimitName, Refusal};
 use pj_bind::{BindFault, bind, bound_tables_fit};
+use pj_build::{BuildFault, build};
+use pj_exec::run_select;
 use pj_expr::{Query, Table};
-use pj_group::select;
 use pj_journal::types::Catalog;
-use pj_journal::{Actor, Entry, Journal, MoveFault, TABLES, What};
-use pj_legal::{Parsed, Reply, history_refuses_no_body, read_statement};
+use pj_journal::{Actor, Entry, Journal, MoveFault, TABLES, What, parts_hold_the_rows};
+use pj_legal::{Parsed, Reply, history_refuses_no_body, port_refuses_no_body, read_statement};
+use pj_port::Port;
 use pj_value::{NoMemory, Rows};
 use std::alloc::Global;
 use std::marker::Model;
@@ -29,16 +34,16 @@ pub(crate) struct By {
     pub(crate) line: u32,
 }
 
-/// The journal, the catalog, and a store for each table in the order of their numbers. Contracts see the
-/// journal.
+/// The journal, the catalog, and for each table, in the order of their numbers, the store of its parts. Contracts
+/// see the journal.
 #[derive(Drop)]
-pub(crate) struct Server {
+pub(crate) struct Server<P: Port> {
     journal: Journal,
     tables: Catalog,
-    stores: Vec<Store>,
+    stores: Vec<Store<P::Blob>>,
 }
 
-impl Model for Server {
+impl<P: Port> Model for Server<P> {
     ghost use Rattle.pj_journal.specs.Log.{Log};
     ghost use Rattle.pj_server.specs.State.{Stands};
 
@@ -46,10 +51,10 @@ impl Model for Server {
 
     ghost view = { λ s. s.journal };
 
-    ghost invariant = { λ s. Stands s.journal.entries s.tables s.stores.items };
+    ghost invariant = { λ s. Stands P.Blob.told P.Blob.size s.journal.entries s.tables s.stores.items };
 }
 
-impl Server {
+impl<P: Port> Server<P> {
     ghost use Rattle.pj_server.specs.Moves.{
       request_of,
       Adds,
@@ -59,9 +64,10 @@ impl Server {
       ChangesNothing,
       IsReadFault,
     };
+    ghost use Rattle.pj_server.specs.PortFaults.{IsBlamed};
 
     /// No tables, and an empty journal of at most `limit` entries.
-    pub(crate) fn new(alloc: Global, limit: u32) -> Server
+    pub(crate) fn new(alloc: Global, limit: u32) -> Server<P>
         ensures { result ≡ empty_log limit }
     {
         Server {
@@ -97,11 +103,12 @@ impl Server {
     }
 
     /// Runs the statement of a session's line, from its first move to its reply.
-    pub(crate) fn statement(&mut self, alloc: Global, by: By, body: &[u8]) -> Reply
-        ensures { Serves self.old self.new (whole by.line by.session body.now) result }
+    pub(crate) fn statement(&mut self, alloc: Global, port: &mut P, by: By, body: &[u8]) -> Reply
+        ensures serves { Serves P.Blob.tells self.old self.new (whole by.line by.session body.now) result }
+        ensures blamed { IsBlamed result (P.faults port.old) (P.faults port.new) }
     {
         match self.reserve() {
-            Ok(()) => self.first_move(alloc, by, body),
+            Ok(()) => self.first_move(alloc, port, by, body),
             Err(MoveFault::Full) => Reply::Refused(Refusal::Limit(LimitName::History)),
             Err(MoveFault::NoMemory) => Reply::Refused(Refusal::NoMemory),
         }
@@ -117,15 +124,17 @@ impl Server {
         self.journal.reserve()
     }
 
-    fn first_move(&mut self, alloc: Global, by: By, body: &[u8]) -> Reply
+    fn first_move(&mut self, alloc: Global, port: &mut P, by: By, body: &[u8]) -> Reply
         requires room { 1 ≤ self.old.spare }
         requires below { length self.old.entries < self.old.limit }
-        ensures { Serves self.old self.new (whole by.line by.session body.now) result }
+        ensures serves { Serves P.Blob.tells self.old self.new (whole by.line by.session body.now) result }
+        ensures blamed { IsBlamed result (P.faults port.old) (P.faults port.new) }
     {
         bound_tables_fit();
         history_refuses_no_body();
+        port_refuses_no_body();
         match self.read(alloc, body) {
-            Ok(bound) => self.run_bound(alloc, by, bound),
+            Ok(bound) => self.run_bound(alloc, port, by, bound),
             Err(BindFault::Refused(refusal)) => {
                 self.note(by, What::Refused);
                 Reply::Refused(refusal)
@@ -146,19 +155,20 @@ impl Server {
         }
     }
 
-    fn run_bound(&mut self, alloc: Global, by: By, bound: Bound) -> Reply
+    fn run_bound(&mut self, alloc: Global, port: &mut P, by: By, bound: Bound) -> Reply
         requires room { 1 ≤ self.old.spare }
         requires below { length self.old.entries < self.old.limit }
         requires fits { BoundFits (catalog self.old.entries) bound }
-        ensures { Does self.old self.new (request_of by) bound result }
+        ensures does { Does P.Blob.tells self.old self.new (request_of by) bound result }
+        ensures blamed { IsBlamed result (P.faults port.old) (P.faults port.new) }
     {
         match bound {
             Bound::Create(table) => match self.create(alloc, by, table) {
                 Ok(()) => Reply::Done,
                 Err(NoMemory) => Reply::Refused(Refusal::NoMemory),
             },
-            Bound::Insert { table, rows } => self.insert(by, table, rows),
-            Bound::Select { table, query } => self.select(alloc, by, table, &query),
+            Bound::Insert { table, rows } => self.insert(alloc, port, by, table, rows),
+            Bound::Select { table, query } => self.select(alloc, port, by, table, &query),
         }
     }
 
@@ -186,11 +196,13 @@ impl Server {
         ensures same { OnErr result (Adds self.old self.new []) }
     {
         let held = table.duplicate(alloc)?;
-        let kinds = table.kinds(alloc)?;
-        let rows = Rows::new(alloc, kinds.as_slice())?;
         self.stores.reserve(1)?;
         self.tables.add(held)?;
-        self.stores.push(Store { rows, next: 1 }).unwrap();
+        let store = Store {
+            parts: Vec::new(alloc),
+            next: 1,
+        };
+        self.stores.push(store).unwrap();
         self.journal.add(Entry {
             actor: Actor::Session(by.session),
             line: by.line,
@@ -199,25 +211,35 @@ impl Server {
         Ok(())
     }
 
-    fn insert(&mut self, by: By, table: u32, rows: Rows) -> Reply
+    fn insert(&mut self, alloc: Global, port: &mut P, by: By, table: u32, rows: Rows) -> Reply
         requires room { 1 ≤ self.old.spare }
         requires below { length self.old.entries < self.old.limit }
         requires fits { BoundFits (catalog self.old.entries) (Bound.Insert table rows) }
-        ensures { Does self.old self.new (request_of by) (Bound.Insert table rows) result }
+        ensures does { Does P.Blob.tells self.old self.new (request_of by) (Bound.Insert table rows) result }
+        ensures blamed { IsBlamed result (P.faults port.old) (P.faults port.new) }
     {
         self.note(by, What::Begun { table });
         match self.reserve() {
-            Ok(()) => match self.commit(by, table, rows) {
+            Ok(()) => match self.commit(alloc, port, by, table, rows) {
                 Ok(()) => Reply::Done,
-                Err(NoMemory) => Reply::Refused(Refusal::NoMemory),
+                Err(BuildFault::StoreFault) => Reply::Refused(Refusal::StoreFault),
+                Err(BuildFault::NoMemory) => Reply::Refused(Refusal::NoMemory),
             },
             Err(MoveFault::Full) => Reply::Refused(Refusal::Limit(LimitName::History)),
             Err(MoveFault::NoMemory) => Reply::Refused(Refusal::NoMemory),
         }
     }
 
-    /// Commits the rows of an INSERT as the table's next block.
-    fn commit(&mut self, by: By, table: u32, rows: Rows) -> Result<(), NoMemory>
+    /// Builds a part of the rows of an INSERT, and commits it as the table's next block. After a fault the table
+    /// is as it was.
+    fn commit(
+        &mut self,
+        alloc: Global,
+        port: &mut P,
+        by: By,
+        table: u32,
+        rows: Rows,
+    ) -> Result<(), BuildFault>
         requires room { 1 ≤ self.old.spare }
         requires below { length self.old.entries < self.old.limit }
         requires fits { BoundFits (catalog self.old.entries) (Bound.Insert table rows) }
@@ -225,12 +247,19 @@ impl Server {
             ((block : _)
             × Adds self.old self.new (entry_of (request_of by) (What.Inserted table block rows) ∷ [])) }
         ensures same { OnErr result (Adds self.old self.new []) }
+
+        ensures later { P.faults port.old ≤ P.faults port.new }
+        ensures failed { IsErrOf result build_faults.StoreFault → Rose (P.faults port.old) (P.faults port.new) }
+        ensures calm { (IsErrOf result build_faults.StoreFault → ⊥) → P.faults port.new ≡ P.faults port.old }
     {
         let number = table as usize;
-        // The call says that there are fewer than 2^32 entries, so that the next number fits its type.
+        let draft = build(alloc, port, &self.tables.tables()[number], &rows)?;
+        // The call says that there are fewer than 2^32 entries, so that the next numbers fit their types.
         let _entries = self.journal.entries();
-        let block = self.stores[number].next;
-        append(&mut self.stores, number, &rows)?;
+        let store = &self.stores[number];
+        let block = store.next;
+        let part = inserted_part(alloc, draft, store.parts.len() as u64 + 1, block)?;
+        append(&mut self.stores, number, part)?;
         self.journal.add(Entry {
             actor: Actor::Session(by.session),
             line: by.line,
@@ -239,18 +268,20 @@ impl Server {
         Ok(())
     }
 
-    fn select(&mut self, alloc: Global, by: By, table: u32, query: &Query) -> Reply
+    fn select(&mut self, alloc: Global, port: &mut P, by: By, table: u32, query: &Query) -> Reply
         requires room { 1 ≤ self.old.spare }
         requires below { length self.old.entries < self.old.limit }
         requires fits { BoundFits (catalog self.old.entries) (Bound.Select table query.now) }
-        ensures { Does self.old self.new (request_of by) (Bound.Select table query.now) result }
+        ensures does { Does P.Blob.tells self.old self.new (request_of by) (Bound.Select table query.now) result }
+        ensures blamed { IsBlamed result (P.faults port.old) (P.faults port.new) }
     {
-        match select(alloc, query, &self.stores[table as usize].rows) {
-            Ok(rows) => {
-                self.note(by, What::Looked { table });
-                Reply::Rows(rows)
-            }
-            Err(NoMemory) => Reply::Refused(Refusal::NoMemory),
+        parts_hold_the_rows();
+        self.note(by, What::Looked { table });
+        let number = table as usize;
+        let parts = self.stores[number].parts.as_slice();
+        match run_select(alloc, port, &self.tables.tables()[number], parts, query) {
+            Ok(rows) => Reply::Rows(rows),
+            Err(fault) => Reply::Refused(refusal_for(parts, fault)),
         }
     }
 }

@@ -1,31 +1,69 @@
-//! What the server holds of a table beside its definition.
-ghost use Rattle.std.specs.Prelude.{◌≡◌, ◌<◌, ◌+◌, ◌++◌, ◌^◌, length, slice_index_or};
-ghost use Rattle.std.specs.Prelude.{slice_set, vec_len, OnOk, OnErr};
-ghost use Rattle.pj_server.specs.Store.{with_rows};
+//! What the server holds of a table beside its definition: its parts.
+ghost use Rattle.std.specs.Prelude.{◌≡◌, ◌<◌, ◌+◌, ◌^◌, slice_index_or, Some};
+ghost use Rattle.std.specs.Prelude.{slice_set, vec_len, IfOk, OnOk, OnErr};
+ghost use Rattle.pj_part.specs.declared.part.Sorted.{Sorted};
+ghost use Rattle.pj_server.specs.Store.{IsInserted, IsAppended, IsSame};
 
-use pj_value::{NoMemory, Rows};
+use pj_part::{Part, PartDraft, Piece, PieceId, Sorted};
+use pj_value::{List, NoMemory};
+use std::alloc::Global;
+use std::sync::Arc;
 
-/// The rows of a table, in the order in which they came, and the number that the table draws next.
+/// The parts of a table, by their blocks, and the number that the table draws next.
 #[derive(Debug, Drop)]
-pub(crate) struct Store {
-    pub(crate) rows: Rows,
+pub(crate) struct Store<B> {
+    pub(crate) parts: Vec<Part<B>>,
     pub(crate) next: u64,
 }
 
-/// Puts rows behind those of a store, whose next number then is one more. Takes time linear in these rows
-/// alone.
-pub(crate) fn append(stores: &mut Vec<Store>, table: usize, rows: &Rows) -> Result<(), NoMemory>
+/// The part of this number that an INSERT makes of its draft and its block.
+pub(crate) fn inserted_part<B: Drop>(
+    alloc: Global,
+    draft: PartDraft<B>,
+    number: u64,
+    block: u64,
+) -> Result<Part<B>, NoMemory>
+    requires { (own : Sorted B) × (draft.base ≡ Some own) }
+    ensures { IfOk result (IsInserted draft number block) }
+{
+    let sorted: Sorted<B> = draft.base.unwrap();
+    let piece = Piece {
+        home: number,
+        id: PieceId::Base,
+        sorted,
+    };
+    Ok(Part {
+        number,
+        min: block,
+        max: block,
+        level: 0,
+        field: 0,
+        base: Arc::new(alloc, piece)?,
+        mask: None,
+        sides: List::from_vec(Vec::new(alloc)),
+    })
+}
+
+/// Puts a part behind those of a store, whose next number then is one more. Takes the same time whatever the
+/// number of parts.
+pub(crate) fn append<B: Drop>(
+    stores: &mut Vec<Store<B>>,
+    table: usize,
+    part: Part<B>,
+) -> Result<(), NoMemory>
     requires there { table < vec_len stores.old }
-    requires kinds { (d : _) → rows.now.kinds ≡ (slice_index_or stores.old.items table d).rows.kinds }
     requires number { (d : _) → (slice_index_or stores.old.items table d).next + 1 < 2 ^ 64 }
     ensures done { OnOk result
         ((d : _)
-        → stores.new.items
-        ≡ slice_set stores.old.items table (with_rows rows.now (slice_index_or stores.old.items table d))) }
-    ensures same { OnErr result (stores.new.items ≡ stores.old.items) }
+        → IsAppended part (slice_index_or stores.old.items table d) (slice_index_or stores.new.items table d)
+        × (stores.new.items ≡ slice_set stores.old.items table (slice_index_or stores.new.items table d))) }
+    ensures same { OnErr result
+        ((d : _)
+        → IsSame (slice_index_or stores.old.items table d) (slice_index_or stores.new.items table d)
+        × (stores.new.items ≡ slice_set stores.old.items table (slice_index_or stores.new.items table d))) }
 {
     let store = &mut stores[table];
-    store.rows.append(rows)?;
+    store.parts.push(part)?;
     store.next += 1;
     Ok(())
 }

@@ -3,6 +3,7 @@
 #![tactic(auto)]
 
 use pj_io::{GiveFault, ReaderSource, Sink, WriterSink, write_all};
+use pj_port::MemoryPort;
 use pj_server::{End, play, write_end};
 use pj_value::NoMemory;
 use pj_words::{About, about_text, asked_about, usage_text};
@@ -32,7 +33,14 @@ fn main(rt: HostRuntime) -> ExitCode {
         Err(NoMemory) => return ended(End::NoMemory, &mut errors),
     }
     let mut source = ReaderSource::new(rt.stdin());
-    let ran = play(rt.alloc(), arguments.as_slice(), &mut source, &mut sink);
+    let mut port = MemoryPort::new(Vec::new(rt.alloc()));
+    let ran = play(
+        rt.alloc(),
+        arguments.as_slice(),
+        &mut source,
+        &mut sink,
+        &mut port,
+    );
     if ran.end == End::Usage {
         return refused(rt.alloc(), arguments.as_slice(), &mut errors);
     }

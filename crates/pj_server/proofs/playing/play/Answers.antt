@@ -1,13 +1,13 @@
 use Rattle.std.proofs.Common.{◌∙◌, sym}
 use Rattle.pj_server.proofs.StatusLemmas.{completes, tells_bad_line, statuses, sink_blamed, source_blamed}
-use Rattle.pj_server.proofs.StatusLemmas.{read_bad_line}
+use Rattle.pj_server.proofs.StatusLemmas.{read_bad_line, never_runs}
 use Rattle.pj_server.proofs.playing.play.Goals as goal
 
 pub returns-clause-complete : goal.returns-clause-complete
 returns-clause-complete g c = λ bytes script told few spelled taken source sink.
     let ran = c.play_arguments-end.ensures in
     rw c.status.ensures
-    (completes c.no_script_with_a_bad_line.ensures c.play_arguments-end.result.end _ _ _ _ _ _ ran.ends
+    (completes c.no_script_with_a_bad_line.ensures c.play_arguments-end.result.end _ _ _ _ _ _ _ _ _ ran.ends
     (λ e. source (ran.source_failed e))
     (λ e. sink (ran.sink_failed e)) bytes script told few spelled taken)
 
@@ -15,7 +15,7 @@ pub returns-clause-bad_line_told : goal.returns-clause-bad_line_told
 returns-clause-bad_line_told g c = λ bytes line told few bad taken source sink.
     let ran = c.play_arguments-end.ensures in
     rw c.status.ensures
-    (tells_bad_line c.no_script_with_a_bad_line.ensures c.play_arguments-end.result.end _ _ _ _ _ _ ran.ends
+    (tells_bad_line c.no_script_with_a_bad_line.ensures c.play_arguments-end.result.end _ _ _ _ _ _ _ _ _ ran.ends
     (λ e. source (ran.source_failed e))
     (λ e. sink (ran.sink_failed e)) bytes line told few bad taken)
 
@@ -34,5 +34,10 @@ returns-clause-statuses g c = rw c.status.ensures (statuses c.play_arguments-end
 
 pub returns-clause-bad_line : goal.returns-clause-bad_line
 returns-clause-bad_line g c = λ is.
-    read_bad_line c.play_arguments-end.result.end _ _ _ _ _ _ c.play_arguments-end.ensures.ends
+    read_bad_line c.play_arguments-end.result.end _ _ _ _ _ _ _ _ _ c.play_arguments-end.ensures.ends
     (sym c.status.ensures ∙ is)
+
+pub returns-clause-uncalled : goal.returns-clause-uncalled
+returns-clause-uncalled g c = λ which.
+    c.play_arguments-end.ensures.uncalled
+    (never_runs c.play_arguments-end.result.end (rw c.status.ensures at which))

@@ -7,8 +7,10 @@ returns-clause-ends g c =
     let lines = rw (c.new-server.ensures, c.as_slice.ensures, c.as_slice-2.ensures) at ran.1 in
     let all = rw c.as_slice-2.ensures at ran.2 in
     let ends =
-    script_ends c.runs_are_legal.ensures c.cut_runs.ensures c.args.limit c.args.wanted c.args.script.now
-    c.run_lines-lines.new.server c.requires.rise c.requires.named c.journal.ensures.regular
+    script_ends c.runs_are_legal.ensures c.cut_runs.ensures g.P.Blob.Kept.tells c.args.limit c.args.wanted
+    c.args.script.now
+    c.run_lines-lines.new.server (g.P.Port.faults c.args.port.now) (g.P.Port.faults c.run_lines-lines.new.port)
+    c.requires.rise c.requires.named c.journal.ensures.regular
     c.journal.ensures.few
     c.run_lines-lines.result c.finish-end.result ran.0 _ _ _ lines all
     (rw c.journal.ensures.journal at c.finish-end.ensures.end) in

@@ -8,15 +8,15 @@ use Rattle.pj_server.proofs.runs.run_line.Goals as goal
 pub returns-in-Ok-clause-run : goal.returns-in-Ok-clause-run
 returns-in-Ok-clause-run g c =
     let name = sym (get_or_read c.args.names.now _ _ c.requires c.index-names-line.is []) in
-    runs_line c.write_text.result _ _ c.args.names.now c.args.line.now c.body_of.result.now
-    c.index-names-line.result c.as_slice.result.now c.statement-reply.result _ _ c.body_of.ensures
-    c.statement-reply.ensures (c.as_slice.ensures.value ∙ c.in-Ok.ensures) name c.write_text.ensures.written
+    runs_line g.P.Blob.Kept.tells c.write_text.result _ _ c.args.names.now c.args.line.now c.body_of.result.now
+    c.index-names-line.result c.as_slice.result.now c.statement-reply.result _ _ _ _ c.body_of.ensures
+    c.statement-reply.ensures.serves c.statement-reply.ensures.blamed (c.as_slice.ensures.value ∙ c.in-Ok.ensures) name c.write_text.ensures.written
 
 pub returns-clause-run : goal.returns-clause-run
 returns-clause-run g c =
     let name = sym (get_or_read c.args.names.now _ _ c.requires c.index-names-line.is []) in
-    runs_line NoMemory _ _ c.args.names.now c.args.line.now c.body_of.result.now c.index-names-line.result
+    runs_line g.P.Blob.Kept.tells NoMemory _ _ c.args.names.now c.args.line.now c.body_of.result.now c.index-names-line.result
     (reply_text c.args.line.now.line c.index-names-line.result c.statement-reply.result)
-    c.statement-reply.result _ _ c.body_of.ensures
-    c.statement-reply.ensures refl name
+    c.statement-reply.result _ _ _ _ c.body_of.ensures
+    c.statement-reply.ensures.serves c.statement-reply.ensures.blamed refl name
     (AppendsPart-none _ _ (reply_text-some _ _ _))

@@ -6,11 +6,12 @@ use Rattle.pj_server.proofs.runs.run_lines.Goals as goal
 pub returns-in_default : goal.returns-in_default
 returns-in_default g c =
     let more =
-    RunsLines-more c.run_goes_on.ensures c.texts_go_on.ensures c.run_line.result
+    RunsLines-more c.run_goes_on.ensures c.texts_go_on.ensures g.P.Blob.Kept.tells c.run_line.result
     c.lines.line-index c.args.server.now c.lines.server c.run_line.new.server c.args.names.now
     c.args.lines.now c.line-item.result
-    (g.W.Sink.taken c.args.sink.now) (g.W.Sink.taken c.lines.sink)
-    (g.W.Sink.taken c.run_line.new.sink) c.lines-test.true c.line-item.is c.lines.invariant.0
+    (g.W.Sink.taken c.args.sink.now) (g.W.Sink.taken c.lines.sink) (g.W.Sink.taken c.run_line.new.sink)
+    (g.P.Port.faults c.args.port.now) (g.P.Port.faults c.lines.port) (g.P.Port.faults c.run_line.new.port)
+    c.lines-test.true c.line-item.is c.lines.invariant.0
     c.run_line.ensures.run in
     record {
       run = (c.lines.line-index + 1, more, λ e. absurd (c.in_default.not-Finished e));
@@ -21,11 +22,12 @@ returns-in_default g c =
 
 pub lines-preserved : goal.lines-preserved
 lines-preserved g c = (
-  RunsLines-more c.run_goes_on.ensures c.texts_go_on.ensures Finished
+  RunsLines-more c.run_goes_on.ensures c.texts_go_on.ensures g.P.Blob.Kept.tells Finished
       c.lines.line-index c.args.server.now c.lines.server c.run_line.new.server c.args.names.now
       c.args.lines.now c.line-item.result
-      (g.W.Sink.taken c.args.sink.now) (g.W.Sink.taken c.lines.sink)
-      (g.W.Sink.taken c.run_line.new.sink) c.lines-test.true c.line-item.is c.lines.invariant.0
+      (g.W.Sink.taken c.args.sink.now) (g.W.Sink.taken c.lines.sink) (g.W.Sink.taken c.run_line.new.sink)
+      (g.P.Port.faults c.args.port.now) (g.P.Port.faults c.lines.port) (g.P.Port.faults c.run_line.new.port)
+      c.lines-test.true c.line-item.is c.lines.invariant.0
       c.in-Finished.ensures.run,
   c.in-Finished.ensures.calm (λ e. cc) ∙ c.lines.invariant.1,
 )

@@ -5,6 +5,7 @@ use Rattle.pj_server.proofs.runs.run_lines.Given as goal
 
 abbrev pub invariant-lines : goal.invariant-lines
 invariant-lines g l =
-    RunsLines Finished l.line-index l.initial.server l.server l.names l.lines (g.W.Sink.taken l.initial.sink)
-    (g.W.Sink.taken l.sink)
+    RunsLines g.P.Blob.Kept.tells Finished l.line-index l.initial.server l.server l.names l.lines
+    (g.W.Sink.taken l.initial.sink) (g.W.Sink.taken l.sink)
+    (g.P.Port.faults l.initial.port) (g.P.Port.faults l.port)
     × (g.W.Sink.faults l.sink ≡ g.W.Sink.faults l.initial.sink)

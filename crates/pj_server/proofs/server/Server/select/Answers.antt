@@ -1,32 +1,104 @@
-use Rattle.std.proofs.Common.{◌≡◌, ap, ◌∙◌}
+use Rattle.std.proofs.Common.{◌∙◌, Err, sym, ap, subst, arith}
 use Rattle.std.proofs.lemmas.Option.{slice_get_within}
+use Rattle.pj_expr.specs.Fits.{FitsQuery}
+use Rattle.pj_expr.specs.Tables.{kinds_of, TableFits}
+use Rattle.pj_exec.specs.Scans.{IsUnmasked}
+use Rattle.std.specs.List.{AllByRecursion}
 use Rattle.pj_journal.specs.Log.{Log}
-use Rattle.pj_journal.specs.History.{catalog, table_rows}
-use Rattle.pj_server.specs.Moves.{request_of}
-use Rattle.pj_server.proofs.MoveLemmas.{does_select}
-use Rattle.pj_server.proofs.StateLemmas.{held_rows}
+use Rattle.pj_server.specs.Moves.{request_of, Does}
+use Rattle.pj_bind.specs.declared.types.Bound.TheVariants.{Select}
+use Rattle.pj_server.proofs.MoveLemmas.{does_select, select_refused}
+use Rattle.pj_server.proofs.TableLemmas.{table_fits, table_is, table_within, store_within, parts_live, looked_table}
+use Rattle.pj_server.proofs.TableLemmas.{all_unmasked, all_agree_with, read_rightly, untold}
 use Rattle.pj_server.proofs.server.Server.select.Goals as goal
+use Rattle.pj_server.proofs.server.Server.select.Goals.{in-Ok, in-Err}
 
-pub select-requires : goal.select-requires
-select-requires c =
+pub index-requires : goal.index-requires
+index-requires g c =
     let h = c.self.inside.journal.entries in
-    let fits = rw (← c.self.view_is) at c.requires.fits in
-    let same : c.index.result.now.rows ≡ table_rows h c.args.table =
-    held_rows h c.self.inside.tables c.self.inside.stores.items c.args.table c.index.result.now fits.0
-    c.self.invariant fits.1 c.index.ensures in
-    rw (same, fits.1) (record { fits = fits.2 })
+    let grown = ap (λ (l : Log). l.entries) c.self.view_is ∙ c.note.ensures.grown in
+    let fits = c.requires.fits in
+    let at = looked_table c.args.self.now.entries h (request_of c.args.by) c.args.table fits.0 grown fits.1 in
+    omega (arith, c.self.inside.stores.ok.0, store_within _ _ h _ _ c.args.table fits.0 at c.self.invariant)
 
-pub note-requires-clause-fits : goal.note-requires-clause-fits
-note-requires-clause-fits c =
-    slice_get_within (catalog c.args.self.now.entries) c.args.table c.requires.fits.0 c.requires.fits.1
-
-pub returns-in-Ok : goal.returns-in-Ok
-returns-in-Ok c =
+pub bounds-tables-number : goal.bounds-tables-number
+bounds-tables-number g c =
     let h = c.self.inside.journal.entries in
-    let fits = rw (← c.self.view_is) at c.requires.fits in
-    let same : c.index.result.now.rows ≡ table_rows c.args.self.now.entries c.args.table =
-    held_rows h c.self.inside.tables c.self.inside.stores.items c.args.table c.index.result.now fits.0
-    c.self.invariant fits.1 c.index.ensures
-    ∙ ap (λ (log : Log). table_rows log.entries c.args.table) c.self.view_is in
-    does_select c.args.self.now c.note.new.self (request_of c.args.by) c.args.table c.args.query.now
-    c.index.result.now.rows c.in-Ok.rows same c.in-Ok.ensures c.note.ensures
+    let grown = ap (λ (l : Log). l.entries) c.self.view_is ∙ c.note.ensures.grown in
+    let fits = c.requires.fits in
+    let at = looked_table c.args.self.now.entries h (request_of c.args.by) c.args.table fits.0 grown fits.1 in
+    rw c.tables.ensures.tables (table_within _ _ h _ _ c.args.table fits.0 at c.self.invariant)
+
+pub run_select-requires-clause-table : goal.run_select-requires-clause-table
+run_select-requires-clause-table g c = λ κs within.
+    let h = c.self.inside.journal.entries in
+    let grown = ap (λ (l : Log). l.entries) c.self.view_is ∙ c.note.ensures.grown in
+    let fits = c.requires.fits in
+    let at = looked_table c.args.self.now.entries h (request_of c.args.by) c.args.table fits.0 grown fits.1 in
+    let same = table_is _ _ h _ _ c.args.table fits.0 at c.self.invariant c.tables.result.now
+    c.index-tables-number.result c.tables.ensures.tables c.index-tables-number.is in
+    subst TableFits (sym same) (table_fits h c.args.table fits.0 c.self.invariant.regular at)
+
+pub run_select-requires-clause-fits : goal.run_select-requires-clause-fits
+run_select-requires-clause-fits g c = λ κs within.
+    let h = c.self.inside.journal.entries in
+    let grown = ap (λ (l : Log). l.entries) c.self.view_is ∙ c.note.ensures.grown in
+    let fits = c.requires.fits in
+    let at = looked_table c.args.self.now.entries h (request_of c.args.by) c.args.table fits.0 grown fits.1 in
+    let same = table_is _ _ h _ _ c.args.table fits.0 at c.self.invariant c.tables.result.now
+    c.index-tables-number.result c.tables.ensures.tables c.index-tables-number.is in
+    subst (λ x. FitsQuery (kinds_of x) c.args.query.now) (sym same) fits.2
+
+pub run_select-requires-clause-parts : goal.run_select-requires-clause-parts
+run_select-requires-clause-parts g c = λ κs within.
+    let h = c.self.inside.journal.entries in
+    let told = g.P.Blob.Kept.told in
+    let size = g.P.Blob.Kept.size in
+    let grown = ap (λ (l : Log). l.entries) c.self.view_is ∙ c.note.ensures.grown in
+    let fits = c.requires.fits in
+    let at = looked_table c.args.self.now.entries h (request_of c.args.by) c.args.table fits.0 grown fits.1 in
+    let same = table_is _ _ h _ _ c.args.table fits.0 at c.self.invariant c.tables.result.now
+    c.index-tables-number.result c.tables.ensures.tables c.index-tables-number.is in
+    let live = parts_live told size h _ _ c.args.table fits.0 at c.self.invariant c.index.result.now
+    c.index.ensures in
+    subst (AllByRecursion (IsUnmasked size c.index-tables-number.result)) (sym c.as_slice-parts.ensures.value)
+    (subst (λ x. AllByRecursion (IsUnmasked size x) c.index.result.now.parts.items) (sym same)
+    (all_unmasked told size fits.0 c.index.result.now.parts.items _ live))
+
+pub refusal_for-requires : goal.refusal_for-requires
+refusal_for-requires g c = λ part column granule at is.
+    let gave = c.in-Err.ensures.damaged part column granule at (ap Err is) in
+    slice_get_within c.as_slice-parts.result.now part gave.part gave.part_is
+
+pub returns-clause-does : goal.returns-clause-does
+returns-clause-does g c =
+    let a = c.args.self.now in
+    let b = c.note.new.self in
+    let t = c.args.table in
+    let q = c.args.query.now in
+    let request = request_of c.args.by in
+    let told = g.P.Blob.Kept.told in
+    let size = g.P.Blob.Kept.size in
+    let tells = g.P.Blob.Kept.tells in
+    let h = c.self.inside.journal.entries in
+    let grown = ap (λ (l : Log). l.entries) c.self.view_is ∙ c.note.ensures.grown in
+    let fits = c.requires.fits in
+    let at = looked_table a.entries h request t fits.0 grown fits.1 in
+    let same = table_is _ _ h _ _ t fits.0 at c.self.invariant c.tables.result.now
+    c.index-tables-number.result c.tables.ensures.tables c.index-tables-number.is in
+    let live = parts_live told size h _ _ t fits.0 at c.self.invariant c.index.result.now c.index.ensures in
+    let agree = all_agree_with told size fits.0 c.index-tables-number.result c.index.result.now.parts.items
+    c.as_slice-parts.result.now _ same c.as_slice-parts.ensures.value live in
+    elim c.match-run_select.branch [
+      | in-Ok w ↦ subst (λ r. Does tells a b request (Select t q) r) (sym w.result-is)
+          (does_select tells a b request t q w.in-Ok.rows
+          (λ is. read_rightly c.parts_hold_the_rows.ensures a.entries h request t fits.0
+          c.index-tables-number.result q w.in-Ok.rows grown fits.1 same
+          (w.in-Ok.ensures.answers is _ agree))
+          c.note.ensures)
+      | in-Err w ↦ subst (λ r. Does tells a b request (Select t q) r) (sym w.result-is)
+          (select_refused tells a b request t q c.as_slice-parts.result.now c.note.ensures w.in-Err.fault
+          w.refusal_for.result w.refusal_for.ensures
+          (λ part column granule place is. untold tells
+          (λ yes. w.in-Err.ensures.undamaged yes _ agree part column granule place (ap Err is))))
+    ]
