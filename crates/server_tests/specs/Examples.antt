@@ -1,5 +1,6 @@
--- Histories written out, and what legality says of them. The tests cite this file.
-use Rattle.std.specs.Prelude.{◌≡◌, ℕ, List, [], ◌∷◌, Option, Some, None}
+-- Histories written out, and what legality says of them, whether the port's blobs tell their bytes or not.
+-- The tests cite this file.
+use Rattle.std.specs.Prelude.{◌≡◌, ℕ, Bool, List, [], ◌∷◌, Option, Some, None}
 use Rattle.pj_value.specs.Rows.{KindedRows}
 use Rattle.pj_script.specs.declared.types.Act.TheVariants.{Whole}
 use Rattle.pj_script.specs.declared.types.Script.{Script}
@@ -52,40 +53,41 @@ inserted given (between ∷ more) =
 -- another session may move between the moves of an INSERT, which line 4 ends
 abbrev pub AnotherSessionMoves : Type 0
 AnotherSessionMoves =
-    (given : Given)
-    → SessionShare 0 (inserting given (Some 4)) (inserted given (entry (Session 1) 3 (Looked 0) ∷ []))
+    (told : Bool) (given : Given)
+    → SessionShare told 0 (inserting given (Some 4)) (inserted given (entry (Session 1) 3 (Looked 0) ∷ []))
     (done_at 1 ∷ done_at 4 ∷ [])
 
 -- a worker's entry disturbs no session, also where its task has the number of a line
 abbrev pub WorkerDisturbsNothing : Type 0
 WorkerDisturbsNothing =
-    (given : Given)
-    → SessionShare 0 (inserting given (Some 2)) (inserted given (entry (Worker 1) 2 (Begun 0) ∷ []))
+    (told : Bool) (given : Given)
+    → SessionShare told 0 (inserting given (Some 2)) (inserted given (entry (Worker 1) 2 (Begun 0) ∷ []))
     (done_at 1 ∷ done_at 2 ∷ [])
 
 -- a statement that never ends has its first move, and no reply
 abbrev pub NeverEnds : Type 0
 NeverEnds =
-    (given : Given)
-    → SessionShare 0 (inserting given None)
+    (told : Bool) (given : Given)
+    → SessionShare told 0 (inserting given None)
     (entry (Session 0) 1 (Created given.table) ∷ entry (Session 0) 2 (Begun 0) ∷ []) (done_at 1 ∷ [])
 
 -- but it doesn't commit
 abbrev pub NeverCommits : Type 0
-NeverCommits = (given : Given) → SessionShare 0 (inserting given None) (inserted given []) (done_at 1 ∷ [])
-    → ⊥
+NeverCommits =
+    (told : Bool) (given : Given)
+    → SessionShare told 0 (inserting given None) (inserted given []) (done_at 1 ∷ []) → ⊥
 
 -- a reply doesn't stand at the line where its statement began, if another line ends it
 abbrev pub NoReplyAtTheStart : Type 0
 NoReplyAtTheStart =
-    (given : Given)
-    → SessionShare 0 (inserting given (Some 4)) (inserted given []) (done_at 1 ∷ done_at 2 ∷ []) → ⊥
+    (told : Bool) (given : Given)
+    → SessionShare told 0 (inserting given (Some 4)) (inserted given []) (done_at 1 ∷ done_at 2 ∷ []) → ⊥
 
 -- another session's entry is not one's own
 abbrev pub NotOnesOwn : Type 0
 NotOnesOwn =
-    (given : Given)
-    → SessionShare 0 (inserting given (Some 2))
+    (told : Bool) (given : Given)
+    → SessionShare told 0 (inserting given (Some 2))
     (entry (Session 0) 1 (Created given.table) ∷ entry (Session 0) 2 (Begun 0)
     ∷ entry (Session 1) 2 (Inserted 0 1 given.rows) ∷ [])
     (done_at 1 ∷ done_at 2 ∷ [])

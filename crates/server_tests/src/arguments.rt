@@ -3,7 +3,8 @@ use pj_words::*;
 use std::alloc::{AllocError, Global};
 use std::test::Fail;
 
-fn arguments(alloc: Global, given: &[&str]) -> Result<Vec<String>, AllocError> {
+/// The name of the program, and then these.
+pub(crate) fn arguments(alloc: Global, given: &[&str]) -> Result<Vec<String>, AllocError> {
     let mut arguments = Vec::new(alloc);
     arguments.push(String::from_str(alloc, "projplay")?)?;
     for argument in given {

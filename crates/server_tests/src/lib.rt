@@ -5,10 +5,16 @@
 #[cfg(test)]
 mod arguments;
 #[cfg(test)]
+mod blind;
+#[cfg(test)]
 mod examples;
 #[cfg(test)]
 mod journals;
 #[cfg(test)]
 mod plays;
 #[cfg(test)]
+mod ports;
+#[cfg(test)]
 mod replies;
+#[cfg(test)]
+mod tallies;

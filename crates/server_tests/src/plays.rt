@@ -1,9 +1,11 @@
 //! Runs of whole scripts over sources and sinks in memory: the worked examples, small journals, and failing
-//! calls.
+//! calls. The ports of these runs never fail; those of ports.rt do.
 ghost use Rattle.std.specs.Prelude.{◌≤◌};
 
+use crate::arguments::arguments;
 use pj_io::{MemorySink, MemorySource};
 use pj_journal::{Entry, What};
+use pj_port::MemoryPort;
 use pj_server::{End, play, play_bytes, write_end};
 use std::alloc::{AllocError, Global};
 use std::test::Fail;
@@ -23,7 +25,8 @@ history 4
 4 a 3 looked t
 ";
 
-/// How a script was run: its status and its end, what was written, and how many entries were kept.
+/// How a script was run over a port that never fails: its status and its end, what was written, and how many
+/// entries were kept.
 #[derive(Drop)]
 struct Run {
     status: u8,
@@ -41,15 +44,6 @@ fn creates(entries: &[Entry]) -> bool {
     }
 }
 
-fn arguments(alloc: Global, given: &[&str]) -> Result<Vec<String>, AllocError> {
-    let mut arguments = Vec::new(alloc);
-    arguments.push(String::from_str(alloc, "projplay")?)?;
-    for argument in given {
-        arguments.push(String::from_str(alloc, argument)?)?;
-    }
-    Ok(arguments)
-}
-
 fn played(
     alloc: Global,
     given: &[&str],
@@ -64,7 +58,14 @@ fn played(
     let bytes = Vec::from_slice(alloc, script)?;
     let mut source = MemorySource::new(bytes, piece, vec![in alloc; source_fails]?);
     let mut sink = MemorySink::new(piece, vec![in alloc; sink_fails]?);
-    let ran = play(alloc, arguments.as_slice(), &mut source, &mut sink);
+    let mut port = MemoryPort::new(Vec::new(alloc));
+    let ran = play(
+        alloc,
+        arguments.as_slice(),
+        &mut source,
+        &mut sink,
+        &mut port,
+    );
     Ok(Run {
         status: ran.status,
         end: ran.end,
@@ -184,7 +185,8 @@ fn a_full_journal_refuses_the_next_move(rt: HostRuntime) -> Result<(), Fail> {
     let replies = b"1 a ok\n2 a LIMIT HISTORY\n3 a LIMIT HISTORY\n";
     let mut sink = MemorySink::new(4096, Vec::new(rt.alloc()));
     let bytes = Vec::from_slice(rt.alloc(), COUNT)?;
-    let whole = play_bytes(rt.alloc(), 2, false, bytes, &mut sink);
+    let mut port = MemoryPort::new(Vec::new(rt.alloc()));
+    let whole = play_bytes(rt.alloc(), 2, false, bytes, &mut sink, &mut port);
     assert!(rt; whole.end == End::Finished && whole.history.entries().len() == 2);
     assert!(rt; sink.bytes() == replies.as_slice());
     Ok(())
