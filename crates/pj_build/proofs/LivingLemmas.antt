@@ -160,12 +160,13 @@ module _ {B : Type 0} (told : B → Option (List ℕ)) (size : B → ℕ) where
       → IsSortedBy table.key rows sorted.rows
       → IsWritten told size table.granularity table.key sorted base
       → AgreesLiving told size table rows (fresh_draft base)
-  agrees-written table rows sorted base column_law index_law fits e have s w r is =
+  agrees-written table rows sorted base column_law index_law fits e have s w r is none =
       record {
         own = base;
         base = refl;
         unmasked = refl;
         kept = refl;
+        copies = sym none;
         laid = record {
           formed = record {
             base = formed-base table sorted base column_law index_law fits.some_rows e have

@@ -21,8 +21,11 @@ use std::alloc::Global;
 ///
 /// The rows are sorted once, and stay as they are for the caller. With n rows that takes n times the logarithm
 /// of n comparisons, and two copies of each column. Then each column is written as one blob: the port's `keep` is
-/// called once for each, in the order of the columns. After a fault the port still has the blobs of the columns
-/// before it, which nothing names.
+/// called once for each, in the order of the columns; no clause counts these calls. After a fault the port still
+/// has the blobs of the columns before it, which nothing names.
+///
+/// It fails with `StoreFault` where the port couldn't keep a column, and with `NoMemory` where it is out of
+/// memory.
 pub fn build<P: Port>(
     alloc: Global,
     port: &mut P,

@@ -22,7 +22,9 @@ pub struct Mark {
 /// The bytes of a column, and a mark for each granule, in order.
 #[derive(Debug, Drop)]
 pub struct Written {
+    /// The granules, side by side.
     pub bytes: List<u8>,
+    /// Where each granule stands among these, in their order.
     pub marks: List<Mark>,
 }
 

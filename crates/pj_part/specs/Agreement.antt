@@ -89,11 +89,13 @@ module _ {B : Type 0} (told : B → Option (List ℕ)) (size : B → ℕ) where
     pub field : part.field ≡ r.field
     pub laid : AgreesLaid table (laid_of part) r
 
-  -- a draft over no source, as of an INSERT, has all of its own and no mask, and agrees with the record that its
-  -- part is to have, but for the numbers: it gets these where it becomes live
+  -- a draft over no source, as of an INSERT, has all of its own and no mask, with copies of the record's projections
+  -- alone, and agrees with the record that its part is to have, but for the numbers: it gets these where it becomes
+  -- live
   pub record AgreesFresh (table : Table) (draft : PartDraft B) (r : PartRecord) : Type 0 where
     pub own : Sorted B
     pub base : draft.base ≡ Some own
     pub unmasked : mask_after draft.mask None ≡ None
     pub kept : draft.kept ≡ []
+    pub copies : map (λ side. side.id) draft.built ≡ r.ids
     pub laid : AgreesLaid table (laid_over (alone own) draft) r

@@ -67,6 +67,7 @@ module _ {B : Type 0} (size : B → ℕ) where
   pub record IsFormedMask (granularity rows : ℕ) (mask : Sorted B) : Type 0 where
     pub sorted : IsFormedSorted (kinds.Num ∷ []) [] granularity mask
     pub rows_are : mask.rows ≡ rows
+    pub last : mask.index.last ≡ []
 
   -- a copy has some columns and some key; those of a current one are its projection's
   pub record IsFormedSide (granularity : ℕ) (side : NewSide B) : Type 0 where

@@ -18,6 +18,7 @@ pub enum MaskChange<B> {
 pub struct NewSide<B> {
     /// The number of its projection.
     pub id: u64,
+    /// Its rows.
     pub sorted: Sorted<B>,
 }
 
@@ -28,8 +29,10 @@ pub struct NewSide<B> {
 pub struct PartDraft<B> {
     /// The base, or none where the source's stays.
     pub base: Option<Sorted<B>>,
+    /// What becomes of the source's mask.
     pub mask: MaskChange<B>,
     /// The numbers of the projections whose copies stay.
     pub kept: List<u64>,
+    /// The copies that were built for it.
     pub built: List<NewSide<B>>,
 }

@@ -9,6 +9,8 @@ use std::alloc::Global;
 
 /// The name of a part, as `all_1_3_1`: its blocks from the first to the last, and its level. Where the part had
 /// a mutation, the number of the last one stands behind these.
+///
+/// It takes time and memory for a text of at most 87 bytes, and fails only where it is out of memory.
 pub fn part_name<B>(alloc: Global, part: &Part<B>) -> Result<Text, NoMemory>
     ensures { IfOk result
         (λ name. name ≡ name_text part.now.min part.now.max part.now.level part.now.field) }

@@ -10,8 +10,11 @@ use std::sync::Arc;
 /// A column of sorted rows: the blob that holds its granules, side by side, and where each of these stands.
 #[derive(Debug, Drop)]
 pub struct ColumnFile<B> {
+    /// The granules, in the order of their rows.
     pub blob: B,
+    /// The kind of the values.
     pub kind: Kind,
+    /// Where each granule stands in the blob, in the same order.
     pub marks: List<Mark>,
 }
 
@@ -20,7 +23,9 @@ pub struct ColumnFile<B> {
 pub struct Sorted<B> {
     /// How many rows there are.
     pub rows: u64,
+    /// The first key of each granule, and the last key of all. Those of a mask are empty.
     pub index: KeyMarks,
+    /// Of a base, in the order of the table's columns.
     pub columns: List<ColumnFile<B>>,
 }
 
@@ -40,7 +45,9 @@ pub enum PieceId {
 pub struct Piece<B> {
     /// The number of the part that the piece was made for.
     pub home: u64,
+    /// Which piece of that part it is.
     pub id: PieceId,
+    /// Its rows.
     pub sorted: Sorted<B>,
 }
 
@@ -49,20 +56,25 @@ pub struct Piece<B> {
 pub struct Part<B> {
     /// The part's own number in its table, from 1.
     pub number: u64,
+    /// The number of its first block.
     pub min: u64,
+    /// The number of its last block.
     pub max: u64,
     /// One more than the greatest level of the parts that it was merged from, or 0.
     pub level: u64,
     /// The number of the last mutation that the part had, or 0.
     pub field: u64,
+    /// The rows of its blocks, masked ones too.
     pub base: Arc<Piece<B>>,
-    /// There is a mask exactly where a row is masked.
+    /// Which rows are masked. Where blobs are told, a part that agrees with its record has a mask exactly where a
+    /// row is masked.
     pub mask: Option<Arc<Piece<B>>>,
-    /// The copies, by ascending numbers of their projections.
+    /// The copies, in no order that is claimed. Those of a part that is formed are of different projections.
     pub sides: List<Arc<Piece<B>>>,
 }
 
-/// Whether the part has a copy of the projection with this number. Takes no memory.
+/// Whether the part has a copy of the projection with this number. Takes no memory, and time linear in the number
+/// of copies.
 pub fn has_side<B>(part: &Part<B>, id: u64) -> bool
     ensures { IsTrue result ↔ HasSide part.now id }
 {
