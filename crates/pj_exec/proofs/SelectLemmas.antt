@@ -1,5 +1,5 @@
 -- From an answer over what is read to one over the living rows: the order of the rows, and then the columns.
-use Rattle.std.proofs.Common.{◌≡◌, ℕ, List, length, Ok, Err, refl, sym, ap, subst, ◌∙◌}
+use Rattle.std.proofs.Common.{◌≡◌, ℕ, List, length, map, Ok, Err, refl, sym, ap, subst, ◌∙◌}
 use Rattle.std.proofs.lemmas.List.{length-map}
 use Rattle.std.specs.Prelude.{Result, OnOk, IfOk}
 use Rattle.std.specs.List.{flat_map}
@@ -13,12 +13,12 @@ use Rattle.pj_expr.specs.declared.query.Query.{Query}
 use Rattle.pj_expr.specs.Tables.{kinds_of}
 use Rattle.pj_expr.specs.Fits.{FitsQuery}
 use Rattle.pj_expr.specs.Parts.{PartRecord, living}
-use Rattle.pj_answer.specs.Answers.{Answers}
+use Rattle.pj_answer.specs.Answers.{item_kind, Answers}
 use Rattle.pj_answer.specs.Laws.{AnswersIgnoreTheOrder}
 use Rattle.pj_part.specs.Formed.{kinds_at}
 use Rattle.pj_read.specs.Spans.{picked}
 use Rattle.pj_narrow.specs.Narrowing.{columns_in, narrowed}
-use Rattle.pj_narrow.specs.Laws.{NarrowedQueriesFit, NarrowedQueriesAnswerAlike}
+use Rattle.pj_narrow.specs.Laws.{NarrowedQueriesFit, NarrowedItemsKeepTheirKinds, NarrowedQueriesAnswerAlike}
 use Rattle.pj_exec.specs.Scans.{living_rows, columns_used}
 use Rattle.pj_exec.specs.Layout.{cut_to, cut_rows}
 use Rattle.pj_exec.specs.declared.fault.SelectFault.{SelectFault}
@@ -39,6 +39,16 @@ module _ (table : Table) (q narrow : Query) (columns : List ℕ)
       subst (FitsQuery (kinds_at (kinds_of table) columns)) (sym narrow_is)
       (subst (λ cs. FitsQuery (kinds_at (kinds_of table) cs) (narrowed cs q)) (sym columns_are)
       (fit (kinds_of table) q fits))
+
+  -- where there are rows, they have the kinds of the query's items
+  pub kinds-if_ok : NarrowedItemsKeepTheirKinds → (r : Result KindedRows SelectFault)
+      → IfOk r (λ out. out.kinds ≡ map (item_kind (kinds_at (kinds_of table) columns)) narrow.items)
+      → IfOk r (λ out. out.kinds ≡ map (item_kind (kinds_of table)) q.items)
+  kinds-if_ok kept (Ok out) kinds =
+      kinds ∙ ap (λ n. map (item_kind (kinds_at (kinds_of table) columns)) n.items) narrow_is
+      ∙ ap (λ cs. map (item_kind (kinds_at (kinds_of table) cs)) (narrowed cs q).items) columns_are
+      ∙ kept (kinds_of table) q fits
+  kinds-if_ok kept (Err e) kinds = tt
 
   -- its answers over these are answers of the query over the living rows
   Answers-living : NarrowedQueriesFit → NarrowedQueriesAnswerAlike → AnswersIgnoreTheOrder

@@ -11,15 +11,16 @@ pub enum SelectFault {
     /// The port couldn't read a granule. Its count of faults says so too.
     #[error("could not read a granule")]
     StoreFault,
-    /// The bytes that the port gave last are no granule of the values that a mark tells of. The place is
-    /// counted in bytes from the granule's start.
+    /// The bytes that the port gave last are no granule of the values that a mark tells of.
     #[error("granule {granule} of column {column} of part {part} is damaged at byte {at}")]
     Damaged {
         /// The part, by its index among the parts.
         part: usize,
         /// The column, as the part's base counts its columns.
         column: usize,
+        /// The granule, counted from 0 in its column.
         granule: usize,
+        /// The offset of the damage, in bytes from the granule's start.
         at: u64,
     },
     /// The call was out of memory.

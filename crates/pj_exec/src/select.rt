@@ -1,12 +1,12 @@
 //! SELECT over the parts of a table: of each part all rows are read, in the columns that the query uses.
-ghost use Rattle.std.specs.Prelude.{◌≡◌, ℕ, ◌<◌, List, length, IsTrue, IfOk, OnOk, IsErrOf};
+ghost use Rattle.std.specs.Prelude.{◌≡◌, ℕ, ◌<◌, List, length, map, IsTrue, IfOk, OnOk, IsErrOf};
 ghost use Rattle.std.specs.List.{All, AllByRecursion, AllZip};
 ghost use Rattle.pj_value.specs.declared.value.Value.{Value};
 ghost use Rattle.pj_value.specs.Rows.{HaveKinds};
 ghost use Rattle.pj_expr.specs.Tables.{TableFits, kinds_of};
 ghost use Rattle.pj_expr.specs.Parts.{PartRecord};
 ghost use Rattle.pj_expr.specs.Fits.{FitsQuery};
-ghost use Rattle.pj_answer.specs.Answers.{Answers};
+ghost use Rattle.pj_answer.specs.Answers.{item_kind, Answers};
 ghost use Rattle.pj_part.specs.Formed.{kinds_at};
 ghost use Rattle.pj_part.specs.Agreement.{Agrees};
 ghost use Rattle.pj_exec.specs.Scans.{IsUnmasked, living_rows, columns_used, granules_in};
@@ -26,9 +26,13 @@ use std::alloc::Global;
 
 /// The rows of a right answer of a query over the rows of these parts of a table.
 ///
-/// Each granule of each column that the query uses is read once, part by part. Where it uses none nothing is
-/// read, and the rows are counted. It takes time linear in the bytes that are read, and memory for the used
+/// Each granule of each column that the query uses is read once, part by part, and the first fault or damage that
+/// is met ends the call; of this the clauses say how many reads there are. Where the query uses no column nothing
+/// is read, and the rows are counted. It takes time linear in the bytes that are read, and memory for the used
 /// columns of one part and for what the groups of the query hold.
+///
+/// It fails with `StoreFault` where the port couldn't read, with `Damaged` where a read gave bytes that are no
+/// granule of their mark's values, and with `NoMemory` where it is out of memory.
 pub fn run_select<P: Port>(
     alloc: Global,
     port: &mut P,
@@ -44,6 +48,7 @@ pub fn run_select<P: Port>(
         → IfOk result (Answers query.now (living_rows table.now records)) }
 
     // These hold too where blobs don't tell their bytes.
+    ensures kinds { IfOk result (λ out. out.kinds ≡ map (item_kind (kinds_of table.now)) query.now.items) }
     ensures faults { HasPortCause (P.faults port.old) (P.faults port.new) result }
     ensures reads { TookReads (granules_in (columns_used table.now query.now) parts.now)
         (P.reads port.old) (P.reads port.new) result }
@@ -84,6 +89,8 @@ fn answer_parts<P: Port>(
         → AllZip (HoldsPart P.Blob.told table.now) parts.now all
         → IfOk result (Answers query.now (cut_rows table.now columns.now all)) }
 
+    ensures kinds { IfOk result
+        (λ out. out.kinds ≡ map (item_kind (kinds_at (kinds_of table.now) columns.now)) query.now.items) }
     ensures faults { HasPortCause (P.faults port.old) (P.faults port.new) result }
     ensures reads { TookReads (granules_in columns.now parts.now)
         (P.reads port.old) (P.reads port.new) result }

@@ -17,7 +17,7 @@ use Rattle.pj_answer.specs.Answers.{NeverStepBack}
 use Rattle.pj_read.specs.Spans.{picked}
 use Rattle.pj_narrow.specs.Narrowing.{expr_uses, cond_uses, item_uses, query_uses, columns_in}
 use Rattle.pj_narrow.specs.Narrowing.{narrowed_expr, narrowed_item, narrowed_key, narrowed}
-use Rattle.pj_narrow.specs.Laws.{ColumnsAreThere, NarrowedQueriesFit, NarrowedQueriesAnswerAlike}
+use Rattle.pj_narrow.specs.Laws.{ColumnsAreThere, NarrowedQueriesFit, NarrowedItemsKeepTheirKinds, NarrowedQueriesAnswerAlike}
 use Rattle.pj_narrow.proofs.ListLemmas.{or-first, or-second, each_of_any, map-same, all-mapped, all-both}
 use Rattle.pj_narrow.proofs.WithinLemmas.{query-within}
 use Rattle.pj_narrow.proofs.PlaceLemmas.{IsKept, used-kept, kept-kind}
@@ -160,6 +160,11 @@ NeverStepBack-narrowed columns keys (outcome ∷ next ∷ outcomes) h = (
 pub narrowed_queries_fit : NarrowedQueriesFit
 narrowed_queries_fit kinds q fits =
     fits-kept kinds (columns_in (length kinds) q) q (used_kept kinds q fits.kinds) fits
+
+-- and its items have the kinds of the query's
+pub narrowed_items_keep_their_kinds : NarrowedItemsKeepTheirKinds
+narrowed_items_keep_their_kinds kinds q fits =
+    item_kinds-kept kinds (columns_in (length kinds) q) q.items (used_kept kinds q fits.kinds).items
 
 -- its answers over these are answers over the rows
 pub narrowed_queries_answer_alike : NarrowedQueriesAnswerAlike

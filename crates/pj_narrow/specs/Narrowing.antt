@@ -65,7 +65,7 @@ columns_in count q = filter (λ c. query_uses c q) (range_with_len 0 count)
 
 -- ---- the query over them
 
--- the place of a column among these, and their number where it isn't one of them
+-- the index of a column among these, and how many they are where it isn't one of them
 abbrev pub place_among : List ℕ → ℕ → ℕ
 place_among columns c = position_or_len (λ at. at == c) columns
 

@@ -1,4 +1,4 @@
-//! Queries over some columns alone: each column has the number of its place among them.
+//! Queries over some columns alone: the number of each column is its index among them.
 ghost use Rattle.std.specs.Prelude.{◌≡◌, IfOk, map};
 ghost use Rattle.pj_narrow.specs.Narrowing.{place_among, narrowed_expr, narrowed_cond, narrowed_call};
 ghost use Rattle.pj_narrow.specs.Narrowing.{narrowed_item, narrowed_key, narrowed as narrowed_query};
@@ -8,9 +8,9 @@ use pj_value::{List, NoMemory};
 use sqlite_items::Boxed;
 use std::alloc::Global;
 
-/// The query over these columns alone, in memory of its own: each column has the number of its place among
-/// them. One that isn't among them gets their number, so a query that uses it fits no rows of these columns.
-/// Each use of a column looks through them for its place.
+/// The query over these columns alone, in memory of its own: the number of each column is its index among
+/// them. One that isn't among them gets how many they are, so a query that uses it fits no rows of these columns.
+/// Each use of a column looks through them for its index. Fails only where it is out of memory.
 pub fn narrowed(alloc: Global, query: &Query, columns: &[usize]) -> Result<Query, NoMemory>
     ensures { IfOk result (λ q. q ≡ narrowed_query columns.now query.now) }
 {
@@ -156,7 +156,7 @@ fn narrowed_expr(alloc: Global, expr: &Expr, columns: &[usize]) -> Result<Expr, 
     }
 }
 
-/// The place of a column among these, and their number where it isn't one of them.
+/// The index of a column among these, and how many they are where it isn't one of them.
 fn place_among(columns: &[usize], column: usize) -> usize
     ensures { result ≡ place_among columns.now column }
 {

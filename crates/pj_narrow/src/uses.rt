@@ -8,7 +8,7 @@ use pj_value::NoMemory;
 use std::alloc::Global;
 
 /// The columns that a query uses, of so many, in their order. The query is walked once for each column, of
-/// which a table has at most 64.
+/// which a table has at most 64. Fails only where it is out of memory.
 pub fn columns_of(alloc: Global, query: &Query, count: usize) -> Result<Vec<usize>, NoMemory>
     ensures { IfOk result (λ columns. columns.items ≡ columns_in count query.now) }
 {

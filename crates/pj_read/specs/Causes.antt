@@ -24,7 +24,7 @@ module _ {T : Type 0} where
     pub at_most : RoseAtMost count before now
 
 module _ {B : Type 0} where
-  -- the last read gave the bytes of a granule of a column, and they are damaged at this place
+  -- the last read gave the bytes at a granule's mark, and they are damaged at this offset
   pub record GaveDamage (file : ColumnFile B) (granule at : ℕ) (last : Option ReadBytes) : Type 0 where
     pub mark : Mark
     pub marked : slice_get file.marks granule ≡ Some mark

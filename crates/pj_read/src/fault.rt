@@ -13,13 +13,14 @@ pub enum ReadPartFault {
     /// The port couldn't read a granule. Its count of faults says so too.
     #[error("could not read a granule")]
     StoreFault,
-    /// The bytes that the port gave last are no granule of the values that a mark tells of. The place is counted
-    /// in bytes from the granule's start.
+    /// The bytes that the port gave last are no granule of the values that a mark tells of.
     #[error("granule {granule} of column {column} is damaged at byte {at}")]
     Damaged {
         /// The column, as the base counts its columns.
         column: usize,
+        /// The granule, counted from 0 in its column.
         granule: usize,
+        /// The offset of the damage, in bytes from the granule's start.
         at: u64,
     },
     /// The call was out of memory.

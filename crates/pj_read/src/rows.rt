@@ -23,8 +23,13 @@ use std::alloc::Global;
 /// Reads the rows of a span of granules of a part without a mask, in these columns of its base, in their order. A
 /// column that stands twice among them is read twice.
 ///
-/// Each granule of each column is read once, and decoded before the next read. Without columns nothing is
-/// read: the rows are counted. It takes time linear in the bytes that are read.
+/// Each granule of each column is read once and decoded before the next read, and the first fault or damage that
+/// is met ends the call; of this the clauses say how many reads there are. Without columns nothing is read: the
+/// rows are counted. It takes time linear in the bytes that are read, and memory for the rows and for the bytes of
+/// one granule.
+///
+/// It fails with `StoreFault` where the port couldn't read, with `Damaged` where a read gave bytes that are no
+/// granule of their mark's values, and with `NoMemory` where it is out of memory.
 pub fn read_rows<P: Port>(
     alloc: Global,
     port: &mut P,

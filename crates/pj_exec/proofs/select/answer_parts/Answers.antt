@@ -30,3 +30,9 @@ returns-clause-answers g c =
     ∙ rows-all (HoldsPart g.P.Blob.Kept.told c.args.table.now) c.args.columns.now c.args.parts.now all held)
     (c.in_ok-answer.ensures (kinds_at (kinds_of c.args.table.now) c.args.columns.now) stands.seen
     c.requires.fits stands.stands)
+
+pub returns-clause-kinds : goal.returns-clause-kinds
+returns-clause-kinds g c =
+    let stands = c.in_ok-groups.ensures.stands in
+    (c.in_ok-answer.ensures (kinds_at (kinds_of c.args.table.now) c.args.columns.now) stands.seen
+    c.requires.fits stands.stands).kinds

@@ -3,7 +3,7 @@ use Rattle.pj_narrow.specs.Narrowing.{narrowed}
 use Rattle.pj_exec.specs.Scans.{columns_used, granules_in}
 use Rattle.pj_exec.specs.Causes.{TookReads, GaveDamageOf}
 use Rattle.pj_exec.proofs.AgreeLemmas.{parts-held}
-use Rattle.pj_exec.proofs.SelectLemmas.{columns_used-count, FitsQuery-narrow, Answers-if_ok}
+use Rattle.pj_exec.proofs.SelectLemmas.{columns_used-count, FitsQuery-narrow, kinds-if_ok, Answers-if_ok}
 use Rattle.pj_exec.proofs.select.run_select.Goals as goal
 
 pub answer_parts-requires-clause-fits : goal.answer_parts-requires-clause-fits
@@ -37,6 +37,19 @@ returns-clause-answers g c =
     c.narrowed_queries_answer_alike.ensures.fits c.narrowed_queries_answer_alike.ensures.answers
     c.answers_ignore_the_order.ensures records h.all c.answer_parts.result
     (c.answer_parts.ensures.shape h.all h.held) h.moved (c.answer_parts.ensures.answers h.all h.held)
+
+pub returns-clause-kinds : goal.returns-clause-kinds
+returns-clause-kinds g c =
+    let table = c.args.table.now in
+    let q = c.args.query.now in
+    let columns_are : c.as_slice-3.result.now ≡ columns_used table q =
+    c.as_slice-3.ensures.value ∙ c.in_ok-columns.ensures
+    ∙ columns_used-count table q c.as_slice.result.now c.as_slice.ensures in
+    let narrow_is : c.in_ok-narrow.narrow ≡ narrowed c.as_slice-3.result.now q =
+    c.in_ok-narrow.ensures
+    ∙ ap (λ cs. narrowed cs q) (c.as_slice-2.ensures.value ∙ sym c.as_slice-3.ensures.value) in
+    kinds-if_ok table q c.in_ok-narrow.narrow c.as_slice-3.result.now columns_are narrow_is c.requires.fits
+    c.narrowed_queries_answer_alike.ensures.kinds c.answer_parts.result c.answer_parts.ensures.kinds
 
 pub returns-clause-reads : goal.returns-clause-reads
 returns-clause-reads g c =
