@@ -5,7 +5,7 @@ use Rattle.std.proofs.Common.{arith, length-append}
 use Rattle.std.specs.Prelude.{◌==◌, ◌⊎◌, slice_get, Contains}
 use Rattle.std.specs.List.{AllByRecursion, flat_map}
 use Rattle.std.specs.Fmt.{decimal}
-use Rattle.std.proofs.lemmas.Bool.{cond_both, cases_Bool}
+use Rattle.std.proofs.lemmas.Bool.{cond_both}
 use Rattle.std.proofs.lemmas.Option.{none-some, same_Some, slice_get-get_or}
 use Rattle.pj_expr.specs.declared.query.Query.{Query}
 use Rattle.pj_answer.specs.Answers.{item_kind}
@@ -30,7 +30,7 @@ use Rattle.pj_legal.specs.Shares.{Takes, Went}
 use Rattle.pj_legal.specs.Legal.{IsLegal}
 use Rattle.pj_legal.specs.Texts.{name_at, announced, following, reply_text, replies_text, as_line}
 use Rattle.pj_legal.specs.Laws.{IsPlain}
-use Rattle.pj_legal.specs.FixedReplies.{IsClean, HaveOneShape, HaveOneShapes, FitsReply, TextFixesReplies}
+use Rattle.pj_legal.specs.FixedReplies.{IsClean, HaveOneShape, FitsReply, TextFixesReplies}
 use Rattle.pj_legal.proofs.BodyLaws.{BodyBinds-one, one_meaning}
 use Rattle.pj_legal.proofs.LegalNames.{slice_get_push}
 use Rattle.pj_legal.proofs.histories.ListLemmas.{All-append}
@@ -250,24 +250,24 @@ pub record AreOfSelect (request : Request) (ms : List Move) (out : KindedRows) :
   pub moves : ms ≡ move_of request place (Looked table) ∷ []
   pub kinds : out.kinds ≡ map (item_kind (table_rows place table).kinds) query.items
 
-of_bound : (told : Bool) → told ≡ true → (request : Request) (place : List Entry) (bound : Bound)
+of_bound : (told : Bool) (request : Request) (place : List Entry) (bound : Bound)
     (went : Course) (out : KindedRows)
     → went.reply ≡ Some (replies.Rows out) → BodyBinds (catalog place) request.body bound
     → BoundForm told place request bound went → AreOfSelect request went.moves out
-of_bound told tells request place (bounds.Create table) went out is binds form =
+of_bound told request place (bounds.Create table) went out is binds form =
     let same : Some replies.Done ≡ Some (replies.Rows out) = sym form.1 ∙ is in
     absurd (done_rows out (same_Some _ _ same))
   where
     done_rows : (out : KindedRows) → replies.Done ≡ replies.Rows out → ⊥
     done_rows out same = cc
-of_bound told tells request place (bounds.Insert table rows) went out is binds form =
+of_bound told request place (bounds.Insert table rows) went out is binds form =
     let same : Some replies.Done ≡ Some (replies.Rows out) = sym form.3 ∙ is in
     absurd (done_rows out (same_Some _ _ same))
   where
     done_rows : (out : KindedRows) → replies.Done ≡ replies.Rows out → ⊥
     done_rows out same = cc
-of_bound told tells request place (bounds.Select table query) went out is binds form =
-    let (answer, right, moves, reply) = form in
+of_bound told request place (bounds.Select table query) went out is binds form =
+    let (answer, right, kinds, moves, reply) = form in
     let same : answer ≡ out = rows_are answer out (same_Some _ _ (sym reply ∙ is)) in
     record {
       place = place;
@@ -275,7 +275,7 @@ of_bound told tells request place (bounds.Select table query) went out is binds 
       query = query;
       binds = binds;
       moves = moves;
-      kinds = ap (λ (o : KindedRows). o.kinds) (sym same) ∙ (right tells).kinds;
+      kinds = ap (λ (o : KindedRows). o.kinds) (sym same) ∙ kinds;
     }
   where
     rows_are : (a b : KindedRows) → replies.Rows a ≡ replies.Rows b → a ≡ b
@@ -284,21 +284,21 @@ of_bound told tells request place (bounds.Select table query) went out is binds 
 refused_rows : (refusal : _) (out : KindedRows) → replies.Refused refusal ≡ replies.Rows out → ⊥
 refused_rows refusal out same = cc
 
-of_form : (told : Bool) → told ≡ true → (request : Request) (went : Course) (out : KindedRows)
+of_form : (told : Bool) (request : Request) (went : Course) (out : KindedRows)
     → went.reply ≡ Some (replies.Rows out) → Form told request went → AreOfSelect request went.moves out
-of_form told tells request went out is (inl refused) =
+of_form told request went out is (inl refused) =
     absurd (refused_rows refused.refusal out (same_Some _ _ (sym refused.reply ∙ is)))
-of_form told tells request went out is (inr (inl done)) =
-    of_bound told tells request done.place done.bound went out is done.binds done.form
-of_form told tells request went out is (inr (inr (inl starved))) =
+of_form told request went out is (inr (inl done)) =
+    of_bound told request done.place done.bound went out is done.binds done.form
+of_form told request went out is (inr (inr (inl starved))) =
     absurd (refused_rows _ out (same_Some _ _ (sym starved.reply ∙ is)))
-of_form told tells request went out is (inr (inr (inr (inl shut)))) =
+of_form told request went out is (inr (inr (inr (inl shut)))) =
     absurd (refused_rows _ out (same_Some _ _ (sym shut.reply ∙ is)))
-of_form told tells request went out is (inr (inr (inr (inr (inl faulted))))) =
+of_form told request went out is (inr (inr (inr (inr (inl faulted))))) =
     absurd (refused_rows _ out (same_Some _ _ (sym faulted.reply ∙ is)))
-of_form told tells request went out is (inr (inr (inr (inr (inr (inl damaged)))))) =
+of_form told request went out is (inr (inr (inr (inr (inr (inl damaged)))))) =
     absurd (refused_rows _ out (same_Some _ _ (sym damaged.reply ∙ is)))
-of_form told tells request went out is (inr (inr (inr (inr (inr (inr left)))))) =
+of_form told request went out is (inr (inr (inr (inr (inr (inr left)))))) =
     absurd (none-some (replies.Rows out) (sym left.reply ∙ is))
 
 -- the place of the first of some moves
@@ -324,19 +324,19 @@ kinds_are request ms out other a b =
     ∙ (λ i. map (item_kind (table_rows (places i) (tables i)).kinds) (queries i).items)
     ∙ sym b.kinds
 
--- two replies to one statement have one shape, where blobs tell their bytes
-shapes_are : (told : Bool) → told ≡ true → (request : Request) (ms : List Move) (r s : Reply)
+-- two replies to one statement have one shape
+shapes_are : (told : Bool) (request : Request) (ms : List Move) (r s : Reply)
     → Form told request (record { moves = ms; reply = Some r })
     → Form told request (record { moves = ms; reply = Some s })
     → HaveOneShape r s
-shapes_are told tells request ms (replies.Rows out) (replies.Rows other) a b =
+shapes_are told request ms (replies.Rows out) (replies.Rows other) a b =
     kinds_are request ms out other
-    (of_form told tells request (record { moves = ms; reply = Some (replies.Rows out) }) out refl a)
-    (of_form told tells request (record { moves = ms; reply = Some (replies.Rows other) }) other refl b)
-shapes_are told tells request ms replies.Done s a b = tt
-shapes_are told tells request ms (replies.Refused refusal) s a b = tt
-shapes_are told tells request ms (replies.Rows out) replies.Done a b = tt
-shapes_are told tells request ms (replies.Rows out) (replies.Refused refusal) a b = tt
+    (of_form told request (record { moves = ms; reply = Some (replies.Rows out) }) out refl a)
+    (of_form told request (record { moves = ms; reply = Some (replies.Rows other) }) other refl b)
+shapes_are told request ms replies.Done s a b = tt
+shapes_are told request ms (replies.Refused refusal) s a b = tt
+shapes_are told request ms (replies.Rows out) replies.Done a b = tt
+shapes_are told request ms (replies.Rows out) (replies.Refused refusal) a b = tt
 
 -- ---- all of it
 
@@ -413,10 +413,10 @@ module _ (told : Bool) (script : Script) (h : List Entry) (names : AreNames scri
       let line : known.asked.request.line ≡ r.line = same_Some _ _ (sym facts.2 ∙ known.asked.at) in
       omega (arith, facts.1, line, small)
 
-  -- known replies at one line to one session have one shape, where blobs tell their bytes
-  one_shape : told ≡ true → (r s : Shown) → IsKnown told script h r → IsKnown told script h s
+  -- known replies at one line to one session have one shape
+  one_shape : (r s : Shown) → IsKnown told script h r → IsKnown told script h s
       → r.line ≡ s.line → r.session ≡ s.session → HaveOneShape r.reply s.reply
-  one_shape tells r s a b lines sessions =
+  one_shape r s a b lines sessions =
       let mine : List Move = moves_by (Session s.session) h in
       let requests : List Request = requests_by s.session (statements script) in
       let in_order = AreInOrder-requests_by 0 high s.session (statements script) order in
@@ -430,22 +430,22 @@ module _ (told : Bool) (script : Script) (h : List Entry) (names : AreNames scri
       let same : moved.request ≡ b.asked.request =
       In-one 0 high moved.request b.asked.request requests in_order moved.is b.asked.is (line ∙ lines
       ∙ sym other) in
-      shapes_are told tells b.asked.request (for_line b.asked.request.line mine) r.reply s.reply
+      shapes_are told b.asked.request (for_line b.asked.request.line mine) r.reply s.reply
       (subst (λ (x : Request). Form told x (record { moves = for_line x.line mine; reply = Some r.reply }))
       same moved.form) b.asked.form
 
   -- so the text fixes them, one by one
   fixed : (a b : List Shown) → AllByRecursion (IsKnown told script h) a
-      → AllByRecursion (IsKnown told script h) b → (told ≡ false → HaveOneShapes a b)
+      → AllByRecursion (IsKnown told script h) b
       → replies_text script.names a ≡ replies_text script.names b → a ≡ b
-  fixed [] [] known too shapes same = refl
-  fixed [] (s ∷ ss) known too shapes same =
+  fixed [] [] known too same = refl
+  fixed [] (s ∷ ss) known too same =
       absurd (reply_text-some s.line (name_at script.names s.session) s.reply (replies_text script.names ss)
       same)
-  fixed (r ∷ rs) [] known too shapes same =
+  fixed (r ∷ rs) [] known too same =
       absurd (reply_text-some r.line (name_at script.names r.session) r.reply (replies_text script.names rs)
       (sym same))
-  fixed (r ∷ rs) (s ∷ ss) known too shapes same =
+  fixed (r ∷ rs) (s ∷ ss) known too same =
       let first = IsName-at script.names r.session names.0 known.0.heard in
       let other = IsName-at script.names s.session names.0 too.0.heard in
       let few = small_line r known.0 in
@@ -456,19 +456,16 @@ module _ (told : Bool) (script : Script) (h : List Entry) (names : AreNames scri
       in
       let sessions : r.session ≡ s.session =
       one_session r.session s.session known.0.heard too.0.heard asked.1 in
-      let shape : HaveOneShape r.reply s.reply = elim (cases_Bool told) [
-        | inl tells ↦ one_shape tells r s known.0 too.0 asked.0 sessions
-        | inr untold ↦ (shapes untold).0
-      ] in
+      let shape : HaveOneShape r.reply s.reply = one_shape r s known.0 too.0 asked.0 sessions in
       let all = reply_text-read r.line s.line (name_at script.names r.session)
       (name_at script.names s.session)
       r.reply s.reply (replies_text script.names rs) (replies_text script.names ss) few many first other
       known.0.clean too.0.clean shape same in
-      let rest : rs ≡ ss = fixed rs ss known.1 too.1 (λ untold. (shapes untold).1) all.3 in
+      let rest : rs ≡ ss = fixed rs ss known.1 too.1 all.3 in
       (λ i. record { line = asked.0 i; session = sessions i; reply = all.2 i } ∷ rest i)
 
 pub text_fixes_replies : TextFixesReplies
-text_fixes_replies told mode bytes script h a b few spelled legal other shapes fits too same =
+text_fixes_replies told mode bytes script h a b few spelled legal other fits too same =
     let high : ℕ = 1 + length (pieces bytes) in
     fixed told script h
     (AreNames-lines mode 1 [] (pieces bytes) script.lines script.names spelled
@@ -477,4 +474,4 @@ text_fixes_replies told mode bytes script h a b few spelled legal other shapes f
     (AreInOrder-statements 0 high script.lines
     (AreBetween-lines mode 0 1 [] (pieces bytes) script.lines script.names (omega arith) spelled))
     (omega (arith, few, length-pieces bytes))
-    a b (known_from told script h a legal fits) (known_from told script h b other too) shapes same
+    a b (known_from told script h a legal fits) (known_from told script h b other too) same

@@ -25,7 +25,7 @@ MovesAreOf-bound told place request (bounds.Create table) course form =
 MovesAreOf-bound told place request (bounds.Insert table rows) course form =
     subst (MovesAreOf request) (sym form.2) (refl, (refl, tt))
 MovesAreOf-bound told place request (bounds.Select table query) course form =
-    subst (MovesAreOf request) (sym form.2) (refl, tt)
+    subst (MovesAreOf request) (sym form.3) (refl, tt)
 
 MovesAreOf-one : (sort : Bound → What → Type 0) (request : Request) (course : Course)
     → HasOneMove sort request course → MovesAreOf request course.moves

@@ -38,12 +38,6 @@ abbrev pub HaveOneShape : Reply → Reply → Type 0
 HaveOneShape (replies.Rows out) (replies.Rows other) = out.kinds ≡ other.kinds
 HaveOneShape reply other = Unit {0}
 
--- so have the replies of two lists, one by one, as far as both go
-abbrev pub HaveOneShapes : List Shown → List Shown → Type 0
-HaveOneShapes (shown ∷ more) (other ∷ others) =
-    HaveOneShape shown.reply other.reply × HaveOneShapes more others
-HaveOneShapes replies others = Unit {0}
-
 -- a text that begins with a reply fixes its line, its name, the reply, and the text behind it, where the
 -- kinds of its columns are known
 abbrev pub TextFixesReply : Type 0
@@ -59,12 +53,11 @@ FitsReply replies.Done = Unit {0}
 FitsReply (replies.Rows out) = AreCleanRows out
 FitsReply (replies.Refused refusal) = HasSmallOffset refusal
 
--- among the replies that are legal for a script and a history, their text fixes them; where blobs don't tell
--- their bytes, the kinds of the columns must be known otherwise
+-- among the replies that are legal for a script and a history, their text fixes them
 abbrev pub TextFixesReplies : Type 0
 TextFixesReplies =
     (told : Bool) (mode : ScriptMode) (bytes : List ℕ) (script : Script) (h : List Entry) (a b : List Shown)
     → length bytes < 2 ^ 31 → IsScript mode bytes script
-    → IsLegal told script h a → IsLegal told script h b → (told ≡ false → HaveOneShapes a b)
+    → IsLegal told script h a → IsLegal told script h b
     → AllByRecursion (λ shown. FitsReply shown.reply) a → AllByRecursion (λ shown. FitsReply shown.reply) b
     → replies_text script.names a ≡ replies_text script.names b → a ≡ b

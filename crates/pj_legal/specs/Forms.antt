@@ -1,21 +1,23 @@
 -- The forms of statements: which moves each makes, and which reply it gets (docs/MODEL.md, "Forms of
 -- statements"). `told` is whether the blobs of the port tell their bytes: only then can it be said which rows
--- a SELECT found.
-use Rattle.std.specs.Prelude.{◌≡◌, ℕ, ◌⊎◌, Bool, true, false, List, [], ◌∷◌, Option, Some, None}
+-- a SELECT found, and else of which kinds they are.
+use Rattle.std.specs.Prelude.{◌≡◌, ℕ, ◌⊎◌, Bool, true, false, List, [], ◌∷◌, map, Contains, Option, Some, None}
 use Rattle.pj_expr.specs.declared.query.Query.{Query}
+use Rattle.pj_expr.specs.Parts.{PartRecord}
 use Rattle.pj_value.specs.Rows.{KindedRows}
-use Rattle.pj_answer.specs.Answers.{Answers}
+use Rattle.pj_answer.specs.Answers.{item_kind, Answers}
 use Rattle.pj_journal.specs.declared.entry.Actor.TheVariants.{Session}
 use Rattle.pj_journal.specs.declared.entry.What.{What}
 use Rattle.pj_journal.specs.declared.entry.What.TheVariants as whats
 use Rattle.pj_journal.specs.declared.entry.Entry.{Entry}
 use Rattle.pj_journal.specs.History.{catalog, table_rows}
 use Rattle.pj_journal.specs.Moves.{Move}
+use Rattle.pj_journal.specs.Parts.{parts}
 use Rattle.pj_bind.specs.declared.types.Bound.{Bound}
 use Rattle.pj_bind.specs.declared.types.Bound.TheVariants as bounds
 use Rattle.pj_bind.specs.declared.types.LimitName.TheVariants.{History}
 use Rattle.pj_bind.specs.declared.types.PartName.{PartName}
-use Rattle.pj_bind.specs.declared.types.SourceName.{SourceName}
+use Rattle.pj_bind.specs.declared.types.SourceName.TheVariants.{Base}
 use Rattle.pj_bind.specs.declared.types.Refusal.{Refusal}
 use Rattle.pj_bind.specs.declared.types.Refusal.TheVariants as refusals
 use Rattle.pj_legal.specs.declared.reply.Reply.{Reply}
@@ -67,6 +69,7 @@ BoundForm told place request (bounds.Insert table rows) course =
     × (course.reply ≡ Some replies.Done)
 BoundForm told place request (bounds.Select table query) course =
     (out : KindedRows) × (told ≡ true → Answers query (table_rows place table) out)
+    × (out.kinds ≡ map (item_kind (table_rows place table).kinds) query.items)
     × (course.moves ≡ move_of request place (whats.Looked table) ∷ [])
     × (course.reply ≡ Some (replies.Rows out))
 
@@ -122,7 +125,12 @@ pub record IsFaulted (request : Request) (course : Course) : Type 0 where
   pub stopped : HasOneMove MayFail request course
   pub reply : course.reply ≡ Some store_fault
 
--- the statement is a SELECT that met a damaged granule, and blobs don't tell their bytes
+-- the name of a record's part
+abbrev pub name_of : PartRecord → PartName
+name_of r = record { min = r.min; max = r.max; level = r.level; field = r.field }
+
+-- the statement is a SELECT that met a damaged granule, in the base of a part that the table has at its place, and
+-- blobs don't tell their bytes
 pub record IsDamaged (told : Bool) (request : Request) (course : Course) : Type 0 where
   pub untold : told ≡ false
   pub place : List Entry
@@ -131,11 +139,11 @@ pub record IsDamaged (told : Bool) (request : Request) (course : Course) : Type 
   pub binds : BodyBinds (catalog place) request.body (bounds.Select table query)
   pub moves : course.moves ≡ move_of request place (whats.Looked table) ∷ []
   pub part : PartName
-  pub source : SourceName
+  pub there : Contains (map name_of (parts place table)) part
   pub column : ℕ
   pub granule : ℕ
   pub at : ℕ
-  pub reply : course.reply ≡ Some (replies.Refused (refusals.Damaged part source column granule at))
+  pub reply : course.reply ≡ Some (replies.Refused (refusals.Damaged part Base column granule at))
 
 -- the statement never ends: it has its first move at most
 pub record IsLeftOpen (request : Request) (course : Course) : Type 0 where

@@ -32,7 +32,7 @@ IsPlain-bound told place request (bounds.Create table) course reply is form =
 IsPlain-bound told place request (bounds.Insert table rows) course reply is form =
     subst IsPlain (same_Some _ _ (sym form.3 ∙ is)) tt
 IsPlain-bound told place request (bounds.Select table query) course reply is form =
-    subst IsPlain (same_Some _ _ (sym form.3 ∙ is)) tt
+    subst IsPlain (same_Some _ _ (sym form.4 ∙ is)) tt
 
 -- no form's reply gives a name with a line feed
 IsPlain-form : (told : Bool) (request : Request) (course : Course) (reply : Reply)
@@ -68,7 +68,7 @@ TellsNoDamage-bound told place request (bounds.Create table) course reply is for
 TellsNoDamage-bound told place request (bounds.Insert table rows) course reply is form =
     subst TellsNoDamage (same_Some _ _ (sym form.3 ∙ is)) tt
 TellsNoDamage-bound told place request (bounds.Select table query) course reply is form =
-    subst TellsNoDamage (same_Some _ _ (sym form.3 ∙ is)) tt
+    subst TellsNoDamage (same_Some _ _ (sym form.4 ∙ is)) tt
 
 -- nor, where blobs tell their bytes, does any form's
 TellsNoDamage-form : (request : Request) (course : Course) (reply : Reply) → course.reply ≡ Some reply
