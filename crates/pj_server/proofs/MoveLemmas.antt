@@ -2,7 +2,7 @@
 use Rattle.std.proofs.Common.{◌≡◌, ℕ, ◌+◌, ◌<◌, Bool, true, false, List, [], ◌∷◌, ◌++◌, length, map, Option, Some, None}
 use Rattle.std.proofs.Common.{Result, Ok, Err, refl}
 use Rattle.std.proofs.Common.{sym, ap, subst, ◌∙◌, inl, inr, append_assoc, append-nil, arith}
-use Rattle.std.specs.Prelude.{IfOk, IfErr, OnOk}
+use Rattle.std.specs.Prelude.{IfOk, IfErr, OnOk, Contains, slice_get}
 use Rattle.std.specs.List.{AllByRecursion}
 use Rattle.std.proofs.lemmas.List.{length_push}
 use Rattle.std.proofs.lemmas.Option.{same_Some}
@@ -22,16 +22,18 @@ use Rattle.pj_journal.specs.declared.entry.Entry.{Entry}
 use Rattle.pj_journal.specs.History.{catalog, table_rows}
 use Rattle.pj_journal.specs.Log.{Log, IsFull}
 use Rattle.pj_journal.specs.Moves.{moves_from}
+use Rattle.pj_journal.specs.Parts.{parts}
 use Rattle.pj_bind.specs.declared.types.Bound.{Bound}
 use Rattle.pj_bind.specs.declared.types.Bound.TheVariants as bounds
 use Rattle.pj_bind.specs.declared.types.LimitName.TheVariants.{History}
 use Rattle.pj_bind.specs.declared.types.Refusal.{Refusal}
 use Rattle.pj_bind.specs.declared.types.Refusal.TheVariants as refusals
+use Rattle.pj_bind.specs.declared.types.SourceName.TheVariants.{Base}
 use Rattle.pj_bind.specs.declared.binding.BindFault.{BindFault}
 use Rattle.pj_bind.specs.declared.binding.BindFault.TheVariants as faults
 use Rattle.pj_legal.specs.declared.reply.Reply.{Reply}
 use Rattle.pj_legal.specs.declared.reply.Reply.TheVariants as replies
-use Rattle.pj_answer.specs.Answers.{Answers}
+use Rattle.pj_answer.specs.Answers.{item_kind, Answers}
 use Rattle.pj_bind.specs.Built.{IsBuilt}
 use Rattle.pj_bind.specs.Filling.{column_kinds, filled_row, FillsRow, FillColumns, filled_rows}
 use Rattle.pj_grammar.specs.Lexemes.{Lexeme, lexemes}
@@ -44,16 +46,15 @@ use Rattle.pj_legal.specs.Bodies.{BodyReads, BodyBinds, IsBodyRefusal}
 use Rattle.pj_legal.specs.Laws.{HistoryRefusesNoBody}
 use Rattle.pj_legal.specs.Statements.{Request, whole}
 use Rattle.pj_legal.specs.Forms.{Course, entry_of, no_memory, history_full, store_fault, BoundForm, Form}
-use Rattle.pj_legal.specs.Forms.{StopsAfter, MayFail, MovesOn}
+use Rattle.pj_legal.specs.Forms.{StopsAfter, MayFail, MovesOn, name_of}
 use Rattle.pj_legal.specs.Full.{HasNext}
 use Rattle.pj_legal.specs.Run.{IsStep, course}
 use Rattle.pj_server.specs.declared.server.By.{By}
 use Rattle.pj_part.specs.declared.part.Part.{Part}
 use Rattle.pj_exec.specs.declared.fault.SelectFault.{SelectFault}
 use Rattle.pj_exec.specs.declared.fault.SelectFault.TheVariants as select_faults
-use Rattle.pj_bind.specs.declared.types.SourceName.TheVariants.{Base}
-use Rattle.pj_server.specs.Refusals.{name_of, IsRefusalFor}
-use Rattle.pj_server.specs.Moves.{request_of, Adds, BoundFits, BoundStops, Fills, LeavesRoom, BoundDone}
+use Rattle.pj_server.specs.Refusals.{name_of as part_name, IsRefusalFor}
+use Rattle.pj_server.specs.Moves.{request_of, Adds, BoundFits, BoundStops, Fills, BoundDone}
 use Rattle.pj_server.specs.Moves.{Does, Serves, ChangesNothing, IsReadFault}
 use Rattle.pj_server.proofs.HistoryLemmas.{catalog-push, catalog_on-nothing}
 
@@ -257,7 +258,7 @@ form_of_bound told old by body bound added reply binds (inr (inr (inr (inr met))
       binds = subst (BodyBinds (catalog old.entries) body) met.bound_is binds;
       moves = ap (moves_from old.entries) met.moves;
       part = met.part;
-      source = met.source;
+      there = met.there;
       column = met.column;
       granule = met.granule;
       at = met.at;
@@ -273,14 +274,14 @@ done_not_full told place request (bounds.Create table) added reply form same =
 done_not_full told place request (bounds.Insert table rs) added reply form same =
     let is : reply ≡ replies.Done = same_Some _ _ form.3 in cc
 done_not_full told place request (bounds.Select table query) added reply form same =
-    let is : reply ≡ replies.Rows form.0 = same_Some _ _ form.3 in cc
+    let is : reply ≡ replies.Rows form.0 = same_Some _ _ form.4 in cc
 
 -- and has no move to make
 done_no_next : (told : Bool) (place : List Entry) (request : Request) (bound : Bound) (went : Course)
     → BoundForm told place request bound went → HasNext went.moves → ⊥
 done_no_next told place request (bounds.Create table) went form next = subst HasNext form.0 next
 done_no_next told place request (bounds.Insert table rs) went form next = subst HasNext form.2 next
-done_no_next told place request (bounds.Select table query) went form next = subst HasNext form.2 next
+done_no_next told place request (bounds.Select table query) went form next = subst HasNext form.3 next
 
 store_fault-full : store_fault ≡ history_full → ⊥
 store_fault-full same = cc
@@ -298,7 +299,7 @@ full_of_bound told old request bound added reply (inr (inr (inl early))) same = 
 full_of_bound told old request bound added reply (inr (inr (inr (inl early)))) same =
     absurd (store_fault-full (sym early.0 ∙ same))
 full_of_bound told old request bound added reply (inr (inr (inr (inr met)))) same =
-    let is = damage-full (refusals.Damaged met.part met.source met.column met.granule met.at)
+    let is = damage-full (refusals.Damaged met.part Base met.column met.granule met.at)
     (sym met.reply_is ∙ same) in cc
 
 always_of_bound : (told : Bool) (old : Log) (request : Request) (bound : Bound) (added : List Entry)
@@ -397,21 +398,24 @@ tables_stay a b c e nothing begun room =
 
 pub does_select : (told : Bool) (a b : Log) (request : Request) (table : ℕ) (query : Query) (out : KindedRows)
     → (told ≡ true → Answers query (table_rows a.entries table) out)
+    → out.kinds ≡ map (item_kind (table_rows a.entries table).kinds) query.items
     → Adds a b (entry_of request (whats.Looked table) ∷ [])
     → Does told a b request (bounds.Select table query) (replies.Rows out)
-does_select told a b request table query out right adds = (
+does_select told a b request table query out right kinds adds = (
   entry_of request (whats.Looked table) ∷ [],
   adds,
-  inl (out, right, refl, refl),
+  inl (out, right, kinds, refl, refl),
 )
 
 -- a SELECT looked, and its parts could not be read
 module _ {B : Type 0} (told : Bool) (a b : Log) (request : Request) (table : ℕ) (query : Query)
     (ps : List (Part B)) (adds : Adds a b (entry_of request (whats.Looked table) ∷ [])) where
   pub select_refused : (fault : SelectFault) (refusal : Refusal) → IsRefusalFor ps fault refusal
+      → ((index : ℕ) (part : Part B) → slice_get ps index ≡ Some part
+      → Contains (map name_of (parts a.entries table)) (part_name part))
       → ((part column granule at : ℕ) → fault ≡ select_faults.Damaged part column granule at → told ≡ false)
       → Does told a b request (bounds.Select table query) (replies.Refused refusal)
-  select_refused select_faults.StoreFault refusal is untold = (
+  select_refused select_faults.StoreFault refusal is there untold = (
     entry_of request (whats.Looked table) ∷ [],
     adds,
     inr (inr (inr (inl (
@@ -420,7 +424,7 @@ module _ {B : Type 0} (told : Bool) (a b : Log) (request : Request) (table : ℕ
       (λ fills next. absurd next),
     )))),
   )
-  select_refused select_faults.NoMemory refusal is untold = (
+  select_refused select_faults.NoMemory refusal is there untold = (
     entry_of request (whats.Looked table) ∷ [],
     adds,
     inr (inl (
@@ -429,7 +433,7 @@ module _ {B : Type 0} (told : Bool) (a b : Log) (request : Request) (table : ℕ
       (λ fills next. absurd next),
     )),
   )
-  select_refused (select_faults.Damaged part column granule at) refusal is untold = (
+  select_refused (select_faults.Damaged part column granule at) refusal is there untold = (
     entry_of request (whats.Looked table) ∷ [],
     adds,
     inr (inr (inr (inr (record {
@@ -438,8 +442,8 @@ module _ {B : Type 0} (told : Bool) (a b : Log) (request : Request) (table : ℕ
       query = query;
       bound_is = refl;
       moves = refl;
-      part = name_of is.0;
-      source = Base;
+      part = part_name is.0;
+      there = there part is.0 is.1;
       column = column;
       granule = granule;
       at = at;

@@ -1,6 +1,6 @@
 -- The part that an INSERT makes of its draft agrees with the record that its entry makes.
-use Rattle.std.proofs.Common.{◌≡◌, ℕ, ◌+◌, List, [], map, Option, Some, None, refl, sym, ap, subst, arith}
-use Rattle.std.specs.Prelude.{IsSome, unwrap_or, option_map, filter_map}
+use Rattle.std.proofs.Common.{◌≡◌, ℕ, List, [], map, Option, None, refl, sym, ap, subst, arith}
+use Rattle.std.specs.Prelude.{unwrap_or, option_map, filter_map}
 use Rattle.pj_value.specs.declared.value.Value.{Value}
 use Rattle.pj_expr.specs.declared.table.Table.{Table}
 use Rattle.pj_expr.specs.Parts.{PartRecord}
@@ -9,8 +9,8 @@ use Rattle.pj_part.specs.declared.part.Sorted.{Sorted}
 use Rattle.pj_part.specs.declared.part.Part.{Part}
 use Rattle.pj_part.specs.declared.draft.PartDraft.{PartDraft}
 use Rattle.pj_part.specs.Laid.{Laid, laid_of, laid_over, alone, copy_of, piece_in}
-use Rattle.pj_part.specs.Agreement.{HoldsRows, HoldsMask, HoldsBase, AgreesLaid, AgreesFresh, Agrees}
-use Rattle.pj_part.specs.Formed.{IsFormedSorted, IsFormedLaid, key_kinds}
+use Rattle.pj_part.specs.Agreement.{HoldsRows, HoldsMask, AgreesLaid, AgreesFresh}
+use Rattle.pj_part.specs.Formed.{IsFormedSorted, key_kinds}
 use Rattle.pj_expr.specs.Tables.{kinds_of}
 use Rattle.pj_build.specs.Living.{AgreesLiving}
 use Rattle.pj_server.specs.Store.{IsInserted}
@@ -53,7 +53,7 @@ module _ {B : Type 0} (told : B → Option (List ℕ)) (size : B → ℕ) where
       → PartStands told size table part (inserted number block rows)
   part_stands table draft part number block rows living is =
       let r = inserted number block rows in
-      let fresh : AgreesFresh told size table draft r = living r refl in
+      let fresh : AgreesFresh told size table draft r = living r refl refl in
       let base : (laid_over (alone fresh.own) draft).base ≡ (laid_of part).base =
       ap (λ b. unwrap_or b fresh.own) is.base in
       let laid : AgreesLaid told size table (alone (laid_of part).base) r =

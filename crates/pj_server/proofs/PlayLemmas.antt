@@ -19,9 +19,9 @@ use Rattle.pj_journal.specs.declared.entry.Entry.{Entry}
 use Rattle.pj_journal.specs.History.{IsRegular}
 use Rattle.pj_journal.specs.Log.{Log, empty_log}
 use Rattle.pj_legal.specs.declared.reply.Reply.{Reply}
-use Rattle.pj_legal.specs.Statements.{Request, whole, body_of, statement_of, statements, Shown}
+use Rattle.pj_legal.specs.Statements.{whole, body_of, statement_of, statements, Shown}
 use Rattle.pj_legal.specs.Shares.{Rise}
-use Rattle.pj_legal.specs.Run.{IsStep, shown_at, cut}
+use Rattle.pj_legal.specs.Run.{IsStep, shown_at}
 use Rattle.pj_legal.specs.Laws.{request_lines, AreNamed, RunsAreLegal, CutRunsAreLegal, RunGoesOn, TextsGoOn}
 use Rattle.pj_legal.specs.Texts.{as_line, name_at, reply_text, shown_text, replies_text, entries_text}
 use Rattle.pj_legal.specs.Texts.{history_text}
@@ -29,7 +29,7 @@ use Rattle.pj_server.specs.declared.ending.End.{End}
 use Rattle.pj_server.specs.declared.ending.End.TheVariants.{Usage, SourceFailed, TooLarge, BadLine}
 use Rattle.pj_server.specs.declared.ending.End.TheVariants.{SinkFailed, NoMemory, Finished}
 use Rattle.pj_server.specs.Moves.{Serves}
-use Rattle.pj_server.specs.PortFaults.{IsBlamed}
+use Rattle.pj_server.specs.PortFaults.{Counted, IsBlamed}
 use Rattle.pj_server.proofs.PortLemmas.{AreBlamed-none, AreBlamed-more}
 use Rattle.pj_server.specs.RunLines.{Writes, RunsLine, RunsLines}
 use Rattle.pj_server.specs.Ends.{TellsLine, WholeScript, PartScript, ScriptEnds, FinishesSo}
@@ -107,7 +107,7 @@ OnErr-any (Err e) h = h
 -- ---- one line after the other
 
 pub RunsLines-none : (told : Bool) (log : Log) (names : List (List ℕ)) (lines : List ScriptLine)
-    (a : Option (List ℕ)) (was : ℕ)
+    (a : Option (List ℕ)) (was : Counted)
     → RunsLines told Finished 0 log log names lines a a was was
 RunsLines-none told log names lines a was = record {
   replies = [];
@@ -119,7 +119,7 @@ RunsLines-none told log names lines a was = record {
 
 pub RunsLines-more : RunGoesOn → TextsGoOn
     → (told : Bool) (end : End) (i : ℕ) (old mid new : Log) (names : List (List ℕ)) (lines : List ScriptLine)
-    (line : ScriptLine) (a b c : Option (List ℕ)) (was between now : ℕ)
+    (line : ScriptLine) (a b c : Option (List ℕ)) (was between now : Counted)
     → i < length lines → line ≡ get_or lines i line
     → RunsLines told Finished i old mid names lines a b was between
     → RunsLine told end mid new names (statement_of line) b c between now
@@ -157,7 +157,7 @@ lines_rise low [] h = tt
 lines_rise low (line ∷ lines) h = (h.0, lines_rise line.line lines h.1)
 
 module _ (runs : RunsAreLegal) (parts : CutRunsAreLegal) (told : Bool) (limit : ℕ) (wanted : Bool)
-    (script : Script) (log : Log) (was now : ℕ) (rise : Rise 0 (request_lines (statements script))) (named : AreNamed script)
+    (script : Script) (log : Log) (was now : Counted) (rise : Rise 0 (request_lines (statements script))) (named : AreNamed script)
     (regular : IsRegular log.entries) (few : length log.entries ≤ log.limit) where
   -- the history's text where some first lines are all
   abbrev tail : ℕ → List ℕ
@@ -270,7 +270,7 @@ module _ (runs : RunsAreLegal) (parts : CutRunsAreLegal) (told : Bool) (limit : 
 -- ---- the bytes of a script
 
 pub runs_script : (end : End) (told : Bool) (limit : ℕ) (wanted : Bool) (bytes : List ℕ) (script : Script) (h : List Entry)
-    (a b : Option (List ℕ)) (was now : ℕ)
+    (a b : Option (List ℕ)) (was now : Counted)
     → IsScript Play bytes script
     → ScriptEnds end told limit wanted script h a b was now → RunsSo end told limit wanted bytes h a b was now
 runs_script Finished told limit wanted bytes script h a b was now spelled e =
@@ -311,28 +311,28 @@ runs_script SourceFailed told limit wanted bytes script h a b was now spelled e 
 runs_script TooLarge told limit wanted bytes script h a b was now spelled e = absurd e
 
 pub runs_bad_line : (end : End) (told : Bool) (limit : ℕ) (wanted : Bool) (bytes : List ℕ) (line : ℕ)
-    (a b : Option (List ℕ)) (was now : ℕ)
-    → IsBadLine Play bytes line
+    (a b : Option (List ℕ)) (was now : Counted)
+    → IsBadLine Play bytes line → now ≡ was
     → TellsLine end line a b → RunsSo end told limit wanted bytes [] a b was now
-runs_bad_line (BadLine first) told limit wanted bytes line a b was now bad e =
+runs_bad_line (BadLine first) told limit wanted bytes line a b was now bad same e =
     subst (λ n. TellsBadLine n bytes [] a b) (sym e.0) (record { bad = bad; none = refl; written = e.1 })
-runs_bad_line SinkFailed told limit wanted bytes line a b was now bad e =
-    inl (record { line = line; bad = bad; none = refl; written = e })
-runs_bad_line NoMemory told limit wanted bytes line a b was now bad e =
-    inr (inl (record { line = line; bad = bad; none = refl; written = e }))
-runs_bad_line Finished told limit wanted bytes line a b was now bad e = absurd e
-runs_bad_line Usage told limit wanted bytes line a b was now bad e = absurd e
-runs_bad_line SourceFailed told limit wanted bytes line a b was now bad e = absurd e
-runs_bad_line TooLarge told limit wanted bytes line a b was now bad e = absurd e
+runs_bad_line SinkFailed told limit wanted bytes line a b was now bad same e =
+    inl (record { line = line; bad = bad; none = refl; written = e }, same)
+runs_bad_line NoMemory told limit wanted bytes line a b was now bad same e =
+    inr (inl (record { line = line; bad = bad; none = refl; written = e }, same))
+runs_bad_line Finished told limit wanted bytes line a b was now bad same e = absurd e
+runs_bad_line Usage told limit wanted bytes line a b was now bad same e = absurd e
+runs_bad_line SourceFailed told limit wanted bytes line a b was now bad same e = absurd e
+runs_bad_line TooLarge told limit wanted bytes line a b was now bad same e = absurd e
 
-pub runs_nothing : (told : Bool) (limit : ℕ) (wanted : Bool) (bytes : List ℕ) (a : Option (List ℕ)) (was now : ℕ)
-    → RunsSo NoMemory told limit wanted bytes [] a a was now
-runs_nothing told limit wanted bytes a was now = inl (record { none = refl; quiet = Appends-nil a })
+pub runs_nothing : (told : Bool) (limit : ℕ) (wanted : Bool) (bytes : List ℕ) (a : Option (List ℕ)) (was : Counted)
+    → RunsSo NoMemory told limit wanted bytes [] a a was was
+runs_nothing told limit wanted bytes a was = inl (record { none = refl; quiet = Appends-nil a }, refl)
 
 -- ---- the whole call
 
 pub ends_read : (end : End) (told : Bool) (wish : Option Bool) (wanted : Bool) (bytes : List ℕ)
-    (left rest : Option (List ℕ)) (h : List Entry) (a b : Option (List ℕ)) (was now : ℕ)
+    (left rest : Option (List ℕ)) (h : List Entry) (a b : Option (List ℕ)) (was now : Counted)
     → wish ≡ Some wanted → IsRead left rest bytes
     → RunsSo end told history_entries wanted bytes h a b was now → EndsSo end told wish left rest h a b was now
 ends_read Finished told wish wanted bytes left rest h a b was now wished read run =
@@ -351,7 +351,7 @@ ends_read TooLarge told wish wanted bytes left rest h a b was now wished read ru
 
 -- a line whose body is this one
 pub runs_line : (told : Bool) (end : End) (old new : Log) (names : List (List ℕ)) (line : ScriptLine)
-    (body name text : List ℕ) (reply : Reply) (a b : Option (List ℕ)) (was now : ℕ)
+    (body name text : List ℕ) (reply : Reply) (a b : Option (List ℕ)) (was now : Counted)
     → body ≡ body_of line.act
     → Serves told old new (whole line.line line.name body) reply → IsBlamed reply was now
     → text ≡ reply_text line.line name reply → name_at names line.name ≡ name → Writes end a b text

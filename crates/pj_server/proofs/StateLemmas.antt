@@ -1,9 +1,8 @@
 -- The state stands for its history after each kind of move.
 use Rattle.std.proofs.Common.{◌≡◌, ℕ, ◌+◌, ◌<◌, zero, suc, List, [], ◌∷◌, ◌++◌, length, get_or}
-use Rattle.std.proofs.Common.{set, Option, Some, None, refl, sym, ap, subst, ◌∙◌, inl, inr, arith}
+use Rattle.std.proofs.Common.{set, Option, Some, refl, sym, ap, subst, ◌∙◌, inl, inr, arith}
 use Rattle.std.specs.List.{slice_get, AllZip}
 use Rattle.std.proofs.lemmas.Bool.{cases_lt, cases_eq}
-use Rattle.std.proofs.lemmas.Option.{slice_get_within}
 use Rattle.std.proofs.lemmas.List.{get_or_append_left, get_or_push, length_push, length-set}
 use Rattle.std.proofs.lemmas.List.{get_or-set_same, get_or-set_other}
 use Rattle.std.proofs.lemmas.Slice.Zip.{all_zipped_more}
@@ -11,7 +10,6 @@ use Rattle.pj_value.specs.Rows.{KindedRows}
 use Rattle.pj_expr.specs.declared.table.Table.{Table}
 use Rattle.pj_expr.specs.Parts.{PartRecord}
 use Rattle.pj_part.specs.declared.part.Part.{Part}
-use Rattle.pj_part.specs.Agreement.{Agrees}
 use Rattle.pj_journal.specs.declared.entry.What.TheVariants.{Created, Inserted}
 use Rattle.pj_journal.specs.declared.entry.Entry.{Entry}
 use Rattle.pj_journal.specs.History.{catalog, catalog_on, next, next_on, WhatFits, IsRegular}

@@ -13,6 +13,7 @@ use Rattle.pj_server.specs.declared.ending.End.{End}
 use Rattle.pj_server.specs.declared.ending.End.TheVariants.{Usage, SourceFailed, TooLarge, BadLine}
 use Rattle.pj_server.specs.declared.ending.End.TheVariants.{SinkFailed, NoMemory, Finished}
 use Rattle.pj_server.specs.Status.{status_of}
+use Rattle.pj_server.specs.PortFaults.{Counted}
 use Rattle.pj_server.specs.Played.{script_bytes, EndsSo, Reads, NeverRuns}
 
 -- no other status
@@ -62,7 +63,7 @@ source_blamed TooLarge before after calm rose = absurd (omega (arith, rose, calm
 -- a script of the grammar is run to its end, or the call is out of memory
 pub completes : NoScriptWithABadLine
     → (end : End) (told : Bool) (wish : Option Bool) (left rest : Option (List ℕ)) (h : List Entry)
-    (a b : Option (List ℕ)) (was now : ℕ)
+    (a b : Option (List ℕ)) (was now : Counted)
     → EndsSo end told wish left rest h a b was now
     → (end ≡ SourceFailed → ⊥) → (end ≡ SinkFailed → ⊥) → (bytes : List ℕ) (script : Script)
     → left ≡ Some bytes → length bytes ≤ script_bytes → IsScript Play bytes script → (wish ≡ None → ⊥)
@@ -87,7 +88,7 @@ completes law Finished told wish left rest h a b was now ends source sink bytes 
 -- a bad line is told, or the call is out of memory
 pub tells_bad_line : NoScriptWithABadLine
     → (end : End) (told : Bool) (wish : Option Bool) (left rest : Option (List ℕ)) (h : List Entry)
-    (a b : Option (List ℕ)) (was now : ℕ)
+    (a b : Option (List ℕ)) (was now : Counted)
     → EndsSo end told wish left rest h a b was now
     → (end ≡ SourceFailed → ⊥) → (end ≡ SinkFailed → ⊥) → (bytes : List ℕ) (line : ℕ)
     → left ≡ Some bytes → length bytes ≤ script_bytes → IsBadLine Play bytes line → (wish ≡ None → ⊥)
@@ -112,7 +113,7 @@ tells_bad_line law Finished told wish left rest h a b was now ends source sink b
 
 -- status 3 has the bad line that was told
 pub read_bad_line : (end : End) (told : Bool) (wish : Option Bool) (left rest : Option (List ℕ)) (h : List Entry)
-    (a b : Option (List ℕ)) (was now : ℕ)
+    (a b : Option (List ℕ)) (was now : Counted)
     → EndsSo end told wish left rest h a b was now → status_of end ≡ 3
     → (line : ℕ) × (end ≡ BadLine line) × Reads (BadLine line) told wish left rest h a b was now
 read_bad_line (BadLine line) told wish left rest h a b was now ends is = (line, refl, ends)

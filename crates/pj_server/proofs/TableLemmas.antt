@@ -1,15 +1,15 @@
 -- What the state knows of a table that is there, and of its parts.
-use Rattle.std.proofs.Common.{◌≡◌, ℕ, ◌+◌, ◌<◌, ◌≤◌, ◌^◌, zero, suc, Bool, true, false, List, [], ◌∷◌, ◌++◌, length, get_or}
+use Rattle.std.proofs.Common.{◌≡◌, ℕ, ◌+◌, ◌<◌, ◌≤◌, ◌^◌, zero, suc, Bool, true, false, List, [], ◌∷◌, ◌++◌, length, map, get_or}
 use Rattle.std.proofs.Common.{set, Option, Some, None, refl, sym, ap, subst, ◌∙◌, append_assoc, append-nil, arith}
-use Rattle.std.specs.Prelude.{IsTrue}
+use Rattle.std.specs.Prelude.{IsTrue, Contains}
 use Rattle.std.specs.List.{slice_get, AllZip, AllByRecursion}
-use Rattle.std.proofs.lemmas.Option.{slice_get_within}
+use Rattle.std.proofs.lemmas.Option.{slice_get_within, none-some, same_Some}
 use Rattle.pj_value.specs.Rows.{KindedRows, HaveKinds}
 use Rattle.pj_expr.specs.declared.table.Table.{Table}
 use Rattle.pj_expr.specs.Tables.{kinds_of, TableFits}
 use Rattle.pj_expr.specs.Parts.{PartRecord}
 use Rattle.pj_expr.specs.declared.query.Query.{Query}
-use Rattle.pj_answer.specs.Answers.{Answers}
+use Rattle.pj_answer.specs.Answers.{item_kind, Answers}
 use Rattle.pj_part.specs.declared.part.Part.{Part}
 use Rattle.pj_part.specs.declared.draft.PartDraft.{PartDraft}
 use Rattle.pj_part.specs.Agreement.{Agrees}
@@ -18,15 +18,16 @@ use Rattle.pj_exec.specs.Scans.{IsUnmasked, living_rows}
 use Rattle.pj_journal.specs.declared.entry.What.{What}
 use Rattle.pj_journal.specs.declared.entry.What.TheVariants.{Created, Refused, Looked, Begun, Inserted}
 use Rattle.pj_journal.specs.declared.entry.Entry.{Entry}
-use Rattle.pj_journal.specs.History.{catalog, catalog_on, rows, next, kinds_at, table_rows, WhatFits}
+use Rattle.pj_journal.specs.History.{catalog, catalog_on, next, kinds_at, table_rows, WhatFits}
 use Rattle.pj_journal.specs.History.{IsRegularFrom, IsRegular}
 use Rattle.pj_journal.specs.Parts.{inserted, parts, PartsHoldTheRows}
 use Rattle.pj_server.specs.declared.store.Store.{Store}
 use Rattle.pj_server.specs.Store.{IsInserted, IsAppended}
-use Rattle.pj_server.specs.State.{PartStands, StoreStands, Stands}
-use Rattle.pj_legal.specs.Forms.{entry_of}
+use Rattle.pj_server.specs.State.{PartStands, Stands}
+use Rattle.pj_legal.specs.Forms.{entry_of, name_of}
 use Rattle.pj_legal.specs.Statements.{Request}
 use Rattle.pj_server.specs.Moves.{ChangesNothing}
+use Rattle.pj_server.specs.Refusals.{name_of as part_name}
 use Rattle.pj_server.proofs.HistoryLemmas.{catalog-push, catalog_on-nothing, parts-push, parts_on-nothing}
 use Rattle.pj_server.proofs.HistoryLemmas.{next-le-length}
 use Rattle.pj_server.proofs.PartLemmas.{part_stands}
@@ -167,6 +168,28 @@ module _ {B : Type 0} (told : B → Option (List ℕ)) (size : B → ℕ) (table
   all_agree (p ∷ ps) [] all = absurd all
   all_agree (p ∷ ps) (r ∷ rs) all = (all.0.agrees, all_agree ps rs all.1)
 
+-- a part among them has the name of a record
+pub name-there : {B : Type 0} (told : B → Option (List ℕ)) (size : B → ℕ) (table : Table) (ps : List (Part B))
+    (rs : List PartRecord) → AllZip (PartStands told size table) ps rs → (i : ℕ) (p : Part B)
+    → slice_get ps i ≡ Some p → Contains (map name_of rs) (part_name p)
+name-there told size table [] rs all i p at = absurd (none-some p at)
+name-there told size table (q ∷ ps) [] all i p at = absurd all
+name-there told size table (q ∷ ps) (r ∷ rs) all zero p at =
+    let same : q ≡ p = same_Some _ _ at in
+    let agrees = all.0.agrees in (
+      0,
+      omega arith,
+      (λ k. record {
+        min = sym agrees.min k;
+        max = sym agrees.max k;
+        level = sym agrees.level k;
+        field = sym agrees.field k;
+      }) ∙ ap part_name same,
+    )
+name-there told size table (q ∷ ps) (r ∷ rs) all (suc i) p at =
+    let rest = name-there told size table ps rs all.1 i p at in
+    (suc rest.0, omega (arith, rest.1), rest.2)
+
 -- the living rows of the records of a table are its rows
 pub living_rows-table : PartsHoldTheRows → (h : List Entry) (t : ℕ) (table : Table)
     → slice_get (catalog h) t ≡ Some table → living_rows table (parts h t) ≡ table_rows h t
@@ -213,6 +236,15 @@ read_rightly law a h request t table found q out grown at same right =
     let held : living_rows found (parts h t) ≡ table_rows a t =
     (λ i. living_rows (same i) (records i)) ∙ living_rows-table law a t table at in
     subst (λ xs. Answers q xs out) held right
+
+-- the kinds of what a query gives over a table are those that its items have at the place of the look
+pub kinds_rightly : (a : List Entry) (t : ℕ) (table found : Table) (q : Query) (out : KindedRows)
+    → slice_get (catalog a) t ≡ Some table → found ≡ table
+    → out.kinds ≡ map (item_kind (kinds_of found)) q.items
+    → out.kinds ≡ map (item_kind (table_rows a t).kinds) q.items
+kinds_rightly a t table found q out at same kinds =
+    let held : kinds_of found ≡ (table_rows a t).kinds = ap kinds_of same ∙ ap kinds_at (sym at) in
+    kinds ∙ ap (λ ks. map (item_kind ks) q.items) held
 
 -- blobs that don't tell their bytes
 pub untold : (b : Bool) → (IsTrue b → ⊥) → b ≡ false

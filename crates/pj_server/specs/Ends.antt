@@ -10,7 +10,7 @@ use Rattle.pj_legal.specs.Full.{KeepsLimit}
 use Rattle.pj_legal.specs.Run.{cut}
 use Rattle.pj_server.specs.declared.ending.End.{End}
 use Rattle.pj_server.specs.declared.ending.End.TheVariants as ends
-use Rattle.pj_server.specs.PortFaults.{AreBlamed}
+use Rattle.pj_server.specs.PortFaults.{Counted, AreBlamed}
 use Rattle.pj_server.specs.Played.{bad_line_text, output, output_of_part}
 use Rattle.pj_server.specs.RunLines.{Writes}
 
@@ -27,7 +27,7 @@ TellsLine ends.TooLarge line before after = ⊥
 
 -- the whole script was played
 pub record WholeScript (told : Bool) (limit : ℕ) (wanted : Bool) (script : Script) (h : List Entry)
-    (before after : Option (List ℕ)) (was now : ℕ) : Type 0 where
+    (before after : Option (List ℕ)) (was now : Counted) : Type 0 where
   pub replies : List Shown
   pub played : IsPlayed told script h replies
   pub kept : KeepsLimit limit script h replies
@@ -36,7 +36,7 @@ pub record WholeScript (told : Bool) (limit : ℕ) (wanted : Bool) (script : Scr
 
 -- some of its lines were
 pub record PartScript (told : Bool) (limit : ℕ) (wanted : Bool) (script : Script) (h : List Entry)
-    (before after : Option (List ℕ)) (was now : ℕ) : Type 0 where
+    (before after : Option (List ℕ)) (was now : Counted) : Type 0 where
   pub lines : ℕ
   pub replies : List Shown
   pub played : IsPlayed told (cut lines script) h replies
@@ -45,8 +45,8 @@ pub record PartScript (told : Bool) (limit : ℕ) (wanted : Bool) (script : Scri
   pub written : AppendsPart before after (output_of_part lines wanted script h replies)
 
 -- a script was played whole, or in part
-abbrev pub ScriptEnds : End → Bool → ℕ → Bool → Script → List Entry → Option (List ℕ) → Option (List ℕ) → ℕ → ℕ
-    → Type 0
+abbrev pub ScriptEnds : End → Bool → ℕ → Bool → Script → List Entry → Option (List ℕ) → Option (List ℕ) → Counted
+    → Counted → Type 0
 ScriptEnds ends.Finished told limit wanted script h before after was now =
     WholeScript told limit wanted script h before after was now
 ScriptEnds ends.SinkFailed told limit wanted script h before after was now =

@@ -1,5 +1,5 @@
 -- What a statement's moves do to the journal.
-use Rattle.std.specs.Prelude.{◌≡◌, ◌<◌, ℕ, ◌+◌, ◌⊎◌, Bool, false, List, [], ◌∷◌, ◌++◌, length, Some, slice_get}
+use Rattle.std.specs.Prelude.{◌≡◌, ◌<◌, ℕ, ◌+◌, ◌⊎◌, Bool, false, List, [], ◌∷◌, ◌++◌, length, map, Contains, Some, slice_get}
 use Rattle.pj_value.specs.Rows.{HaveKinds}
 use Rattle.pj_expr.specs.declared.table.Table.{Table}
 use Rattle.pj_expr.specs.declared.query.Query.{Query}
@@ -10,10 +10,11 @@ use Rattle.pj_expr.specs.Tables.{kinds_of, TableFits}
 use Rattle.pj_expr.specs.Fits.{FitsQuery}
 use Rattle.pj_journal.specs.Log.{Log}
 use Rattle.pj_journal.specs.Moves.{moves_from}
+use Rattle.pj_journal.specs.Parts.{parts}
 use Rattle.pj_bind.specs.declared.types.Bound.{Bound}
 use Rattle.pj_bind.specs.declared.types.Bound.TheVariants as bounds
 use Rattle.pj_bind.specs.declared.types.PartName.{PartName}
-use Rattle.pj_bind.specs.declared.types.SourceName.{SourceName}
+use Rattle.pj_bind.specs.declared.types.SourceName.TheVariants.{Base}
 use Rattle.pj_bind.specs.declared.types.Refusal.TheVariants.{Damaged}
 use Rattle.pj_legal.specs.declared.reply.Reply.{Reply}
 use Rattle.pj_legal.specs.declared.reply.Reply.TheVariants.{Refused}
@@ -22,7 +23,7 @@ use Rattle.pj_bind.specs.declared.binding.BindFault.TheVariants as faults
 use Rattle.pj_bind.specs.Binding.{IsUnknown, table_limit}
 use Rattle.pj_legal.specs.Bodies.{IsBodyRefusal}
 use Rattle.pj_legal.specs.Statements.{Request, whole}
-use Rattle.pj_legal.specs.Forms.{entry_of, BoundForm, MayFail, MovesOn, no_memory, history_full, store_fault}
+use Rattle.pj_legal.specs.Forms.{entry_of, name_of, BoundForm, MayFail, MovesOn, no_memory, history_full, store_fault}
 use Rattle.pj_legal.specs.Full.{HasNext}
 use Rattle.pj_legal.specs.Run.{IsStep, course}
 use Rattle.pj_server.specs.declared.server.By.{By}
@@ -68,8 +69,9 @@ Fills old added = length old.entries + length added ≡ old.limit
 abbrev pub LeavesRoom : Log → List Entry → Type 0
 LeavesRoom old added = Fills old added → HasNext (moves_from old.entries added) → ⊥
 
--- a SELECT met a damaged granule, and blobs don't tell their bytes
-pub record MeetsDamage (told : Bool) (request : Request) (bound : Bound) (added : List Entry) (reply : Reply)
+-- a SELECT met a damaged granule, in the base of a part of its table, and blobs don't tell their bytes
+pub record MeetsDamage (told : Bool) (place : List Entry) (request : Request) (bound : Bound)
+    (added : List Entry) (reply : Reply)
     : Type 0 where
   pub untold : told ≡ false
   pub table : ℕ
@@ -77,11 +79,11 @@ pub record MeetsDamage (told : Bool) (request : Request) (bound : Bound) (added 
   pub bound_is : bound ≡ bounds.Select table query
   pub moves : added ≡ entry_of request (whats.Looked table) ∷ []
   pub part : PartName
-  pub source : SourceName
+  pub there : Contains (map name_of (parts place table)) part
   pub column : ℕ
   pub granule : ℕ
   pub at : ℕ
-  pub reply_is : reply ≡ Refused (Damaged part source column granule at)
+  pub reply_is : reply ≡ Refused (Damaged part Base column granule at)
 
 -- the bound statement made its moves, or stopped early: it was out of memory, or its port failed, and the journal
 -- had room for a further move; or the journal was full; or a granule was damaged
@@ -91,7 +93,7 @@ BoundDone told old request bound added reply =
     ⊎ ((reply ≡ no_memory) × BoundStops MayFail request bound added × LeavesRoom old added)
     ⊎ ((reply ≡ history_full) × BoundStops MovesOn request bound added × Fills old added)
     ⊎ ((reply ≡ store_fault) × BoundMoves MayFail request bound added × LeavesRoom old added)
-    ⊎ MeetsDamage told request bound added reply
+    ⊎ MeetsDamage told old.entries request bound added reply
 
 -- a bound statement was done
 abbrev pub Does : Bool → Log → Log → Request → Bound → Reply → Type 0

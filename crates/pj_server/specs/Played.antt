@@ -1,5 +1,5 @@
 -- What `play` read, wrote and kept, by how it ended (docs/MODEL.md, "The headline"). `told` is whether the blobs of
--- its port tell their bytes; `was` and `now` are how many faults the port had before and has after.
+-- its port tell their bytes; `was` and `now` are what the port had counted before, and what it has after.
 use Rattle.std.specs.Prelude.{◌≡◌, ℕ, ◌≤◌, ◌⊎◌, Bool, ◌&&◌, nat_le, List, [], ◌++◌}
 use Rattle.std.specs.Prelude.{length, Option, Some, None, if◌then◌else◌, codes}
 use Rattle.std.specs.Fmt.{decimal}
@@ -14,7 +14,7 @@ use Rattle.pj_legal.specs.Legal.{IsPlayed}
 use Rattle.pj_legal.specs.Full.{KeepsLimit}
 use Rattle.pj_legal.specs.Run.{cut}
 use Rattle.pj_legal.specs.Texts.{as_line, replies_text, history_text}
-use Rattle.pj_server.specs.PortFaults.{AreBlamed}
+use Rattle.pj_server.specs.PortFaults.{Counted, AreBlamed}
 use Rattle.pj_server.specs.declared.ending.End.{End}
 use Rattle.pj_server.specs.declared.ending.End.TheVariants as ends
 
@@ -66,10 +66,10 @@ output_of_part lines wanted script h replies =
     output (wanted && nat_le (length script.lines) lines) (cut lines script) h replies
 
 -- the bytes spell a script, the history is legal for it with these replies, as a single thread leaves it,
--- each tells a full journal where it was full, the port's faults rose where replies say so, and the text of
+-- each tells a full journal where it was full, the port's counts rose where replies say so, and the text of
 -- these was written
 pub record PlaysScript (told : Bool) (limit : ℕ) (wanted : Bool) (bytes : List ℕ) (h : List Entry)
-    (before after : Option (List ℕ)) (was now : ℕ) : Type 0 where
+    (before after : Option (List ℕ)) (was now : Counted) : Type 0 where
   pub script : Script
   pub spelled : IsScript Play bytes script
   pub replies : List Shown
@@ -81,7 +81,7 @@ pub record PlaysScript (told : Bool) (limit : ℕ) (wanted : Bool) (bytes : List
 -- the bytes spell a script, the same holds of it cut after some lines, and a proper prefix of the text of
 -- that was written
 pub record PlaysPart (told : Bool) (limit : ℕ) (wanted : Bool) (bytes : List ℕ) (h : List Entry)
-    (before after : Option (List ℕ)) (was now : ℕ) : Type 0 where
+    (before after : Option (List ℕ)) (was now : Counted) : Type 0 where
   pub script : Script
   pub spelled : IsScript Play bytes script
   pub lines : ℕ
@@ -92,15 +92,18 @@ pub record PlaysPart (told : Bool) (limit : ℕ) (wanted : Bool) (bytes : List �
   pub written : AppendsPart before after (output_of_part lines wanted script h replies)
 
 -- what holds of the bytes, the history and what was written, by how the run of the bytes ended
-abbrev pub RunsSo : End → Bool → ℕ → Bool → List ℕ → List Entry → Option (List ℕ) → Option (List ℕ) → ℕ → ℕ → Type 0
+abbrev pub RunsSo : End → Bool → ℕ → Bool → List ℕ → List Entry → Option (List ℕ) → Option (List ℕ) → Counted → Counted
+    → Type 0
 RunsSo ends.Finished told limit wanted bytes h before after was now =
     PlaysScript told limit wanted bytes h before after was now
 RunsSo (ends.BadLine line) told limit wanted bytes h before after was now =
     TellsBadLine line bytes h before after
 RunsSo ends.SinkFailed told limit wanted bytes h before after was now =
-    TellsPart bytes h before after ⊎ PlaysPart told limit wanted bytes h before after was now
+    TellsPart bytes h before after × (now ≡ was)
+    ⊎ PlaysPart told limit wanted bytes h before after was now
 RunsSo ends.NoMemory told limit wanted bytes h before after was now =
-    DoesNothing h before after ⊎ TellsPart bytes h before after
+    DoesNothing h before after × (now ≡ was)
+    ⊎ TellsPart bytes h before after × (now ≡ was)
     ⊎ PlaysPart told limit wanted bytes h before after was now
 RunsSo ends.Usage told limit wanted bytes h before after was now = ⊥
 RunsSo ends.SourceFailed told limit wanted bytes h before after was now = ⊥
@@ -108,7 +111,7 @@ RunsSo ends.TooLarge told limit wanted bytes h before after was now = ⊥
 
 -- the arguments are taken, all bytes were read, and their run ended so
 pub record Reads (end : End) (told : Bool) (wish : Option Bool) (left rest : Option (List ℕ)) (h : List Entry)
-    (before after : Option (List ℕ)) (was now : ℕ) : Type 0 where
+    (before after : Option (List ℕ)) (was now : Counted) : Type 0 where
   pub wanted : Bool
   pub wished : wish ≡ Some wanted
   pub bytes : List ℕ
@@ -122,7 +125,7 @@ IsTaken wish = (wanted : Bool) × (wish ≡ Some wanted)
 -- what holds by how the call ended: `left` and `rest` is what the source had left before and after, `before`
 -- and `after` what the sink had taken
 abbrev pub EndsSo : End → Bool → Option Bool → Option (List ℕ) → Option (List ℕ) → List Entry → Option (List ℕ)
-    → Option (List ℕ) → ℕ → ℕ → Type 0
+    → Option (List ℕ) → Counted → Counted → Type 0
 EndsSo ends.Usage told wish left rest h before after was now =
     (wish ≡ None) × Consumes left rest [] × DoesNothing h before after
 EndsSo ends.SourceFailed told wish left rest h before after was now =
@@ -130,8 +133,8 @@ EndsSo ends.SourceFailed told wish left rest h before after was now =
 EndsSo ends.TooLarge told wish left rest h before after was now =
     IsTaken wish × TookTooMuch script_bytes left rest × DoesNothing h before after
 EndsSo ends.NoMemory told wish left rest h before after was now =
-    (Consumes left rest [] × DoesNothing h before after)
-    ⊎ (IsTaken wish × TookAtMost script_bytes left rest × DoesNothing h before after)
+    (Consumes left rest [] × DoesNothing h before after × (now ≡ was))
+    ⊎ (IsTaken wish × TookAtMost script_bytes left rest × DoesNothing h before after × (now ≡ was))
     ⊎ Reads ends.NoMemory told wish left rest h before after was now
 EndsSo (ends.BadLine line) told wish left rest h before after was now =
     Reads (ends.BadLine line) told wish left rest h before after was now

@@ -1,5 +1,5 @@
 -- How a SELECT is refused whose parts could not be read. No public contract cites this file.
-use Rattle.std.specs.Prelude.{◌≡◌, ℕ, Some, List, slice_get}
+use Rattle.std.specs.Prelude.{◌≡◌, Some, List, slice_get}
 use Rattle.pj_bind.specs.declared.types.PartName.{PartName}
 use Rattle.pj_bind.specs.declared.types.SourceName.TheVariants.{Base}
 use Rattle.pj_bind.specs.declared.types.Refusal.{Refusal}

@@ -10,7 +10,7 @@ use Rattle.pj_legal.specs.Run.{Run, shown_at}
 use Rattle.pj_legal.specs.Texts.{shown_text, replies_text}
 use Rattle.pj_server.specs.declared.ending.End.{End}
 use Rattle.pj_server.specs.declared.ending.End.TheVariants as ends
-use Rattle.pj_server.specs.PortFaults.{IsBlamed, AreBlamed}
+use Rattle.pj_server.specs.PortFaults.{Counted, IsBlamed, AreBlamed}
 use Rattle.pj_server.specs.Moves.{Serves}
 
 -- all of a text was written, or a proper prefix of it, by how the write ended
@@ -23,9 +23,9 @@ Writes ends.Usage before after text = ⊥
 Writes ends.SourceFailed before after text = ⊥
 Writes ends.TooLarge before after text = ⊥
 
--- a statement was run over a port whose faults were so many and are so many now, and its reply was written
+-- a statement was run over a port that had counted so many and has counted so many now, and its reply was written
 pub record RunsLine (told : Bool) (end : End) (old new : Log) (names : List (List ℕ)) (request : Request)
-    (before after : Option (List ℕ)) (was now : ℕ) : Type 0 where
+    (before after : Option (List ℕ)) (was now : Counted) : Type 0 where
   pub reply : Reply
   pub serves : Serves told old new request reply
   pub blamed : IsBlamed reply was now
@@ -33,7 +33,7 @@ pub record RunsLine (told : Bool) (end : End) (old new : Log) (names : List (Lis
 
 -- the first lines were run, and their replies were written
 pub record RunsLines (told : Bool) (end : End) (count : ℕ) (old new : Log) (names : List (List ℕ))
-    (lines : List ScriptLine) (before after : Option (List ℕ)) (was now : ℕ) : Type 0 where
+    (lines : List ScriptLine) (before after : Option (List ℕ)) (was now : Counted) : Type 0 where
   pub replies : List Shown
   pub run : Run told old.limit old.entries (take count (map statement_of lines)) replies new.entries
   pub limit : new.limit ≡ old.limit

@@ -70,7 +70,7 @@ pub fn write_end<W: Sink>(sink: &mut W, end: End) -> Result<(), GiveFault>
     }
 }
 
-/// Writes what is said of a bad line, piece by piece.
+/// Writes what is said of a bad line, in three writes.
 fn write_bad_line_end<W: Sink>(sink: &mut W, line: u32) -> Result<(), GiveFault>
     ensures all { OnOk result (Appends (W.taken sink.old) (W.taken sink.new) (bad_line_end line)) }
     ensures part { OnErr result (AppendsPart (W.taken sink.old) (W.taken sink.new) (bad_line_end line)) }

@@ -17,6 +17,7 @@ ghost use Rattle.pj_words.specs.Words.{wish_of};
 ghost use Rattle.pj_server.specs.Played.{script_bytes, history_entries, DoesNothing};
 ghost use Rattle.pj_server.specs.Played.{RunsSo, Reads, EndsSo, NeverRuns, bad_line_text};
 ghost use Rattle.pj_server.specs.Ends.{TellsLine, ScriptEnds, FinishesSo};
+ghost use Rattle.pj_server.specs.PortFaults.{counted};
 ghost use Rattle.pj_server.specs.Status.{status_of};
 ghost use Rattle.pj_server.specs.declared.ending.End.TheVariants as ends;
 
@@ -68,6 +69,12 @@ pub struct Played {
 /// statuses are 0 where the script was run and all was written, 2 for arguments that aren't taken, 4 where
 /// the source failed, 7 for too many bytes, 3 for a bad line, 5 where the sink failed, and 6 where the call
 /// itself was out of memory.
+///
+/// The rows of tables lie in the port: an INSERT keeps a blob for each column of its part, and a SELECT reads
+/// the granules of the columns that it uses. A statement whose port fails is answered `STORE_FAULT`, and a
+/// SELECT that is given bytes which are no granule `DAMAGED_PART`; then the script goes on. The port isn't told to
+/// forget a blob: what it keeps for those of all parts stays behind the call, and so does what it keeps for those
+/// that an INSERT had kept before it failed. A blob of a port in memory has its bytes itself, and they go with it.
 pub fn play<R: Source, W: Sink, P: Port>(
     alloc: Global,
     arguments: &[String],
@@ -91,14 +98,16 @@ pub fn play<R: Source, W: Sink, P: Port>(
         → (line : ℕ) × (result.end ≡ End.BadLine line)
         × Reads (ends.BadLine line) P.Blob.tells (wish_of (map string_bytes arguments.now)) (R.left source.old)
         (R.left source.new) result.history.entries (W.taken sink.old) (W.taken sink.new)
-        (P.faults port.old) (P.faults port.new) }
+        (counted (P.faults port.old) (P.reads port.old))
+        (counted (P.faults port.new) (P.reads port.new)) }
 
     // The headline: the source's bytes spell a script, the history is legal for it with these replies, and
     // their text was written.
     ensures done { result.status ≡ 0
         → Reads ends.Finished P.Blob.tells (wish_of (map string_bytes arguments.now)) (R.left source.old)
         (R.left source.new) result.history.entries (W.taken sink.old) (W.taken sink.new)
-        (P.faults port.old) (P.faults port.new) }
+        (counted (P.faults port.old) (P.reads port.old))
+        (counted (P.faults port.new) (P.reads port.new)) }
 
     // The history is legal for the script cut after some lines, and a proper prefix of the text of that was
     // written; or a proper prefix of the text of a bad line was.
@@ -106,11 +115,13 @@ pub fn play<R: Source, W: Sink, P: Port>(
     ensures stopped { result.status ≡ 5
         → Reads ends.SinkFailed P.Blob.tells (wish_of (map string_bytes arguments.now)) (R.left source.old)
         (R.left source.new) result.history.entries (W.taken sink.old) (W.taken sink.new)
-        (P.faults port.old) (P.faults port.new) }
+        (counted (P.faults port.old) (P.reads port.old))
+        (counted (P.faults port.new) (P.reads port.new)) }
     ensures starved { result.status ≡ 6
         → EndsSo ends.NoMemory P.Blob.tells (wish_of (map string_bytes arguments.now)) (R.left source.old)
         (R.left source.new) result.history.entries (W.taken sink.old) (W.taken sink.new)
-        (P.faults port.old) (P.faults port.new) }
+        (counted (P.faults port.old) (P.reads port.old))
+        (counted (P.faults port.new) (P.reads port.new)) }
 
     // Out of memory doesn't stand in for a source or a sink that failed.
     ensures source_blamed { R.faults source.old < R.faults source.new → result.status ≡ 4 }
@@ -169,7 +180,8 @@ fn play_arguments<R: Source, W: Sink, P: Port>(
 ) -> Played
     ensures ends { EndsSo result.end P.Blob.tells (wish_of (map string_bytes arguments.now)) (R.left source.old)
         (R.left source.new) result.history.entries (W.taken sink.old) (W.taken sink.new)
-        (P.faults port.old) (P.faults port.new) }
+        (counted (P.faults port.old) (P.reads port.old))
+        (counted (P.faults port.new) (P.reads port.new)) }
     ensures source_failed { result.end ≡ End.SourceFailed → Rose (R.faults source.old) (R.faults source.new) }
     ensures source_calm { (result.end ≡ End.SourceFailed → ⊥)
         → R.faults source.new ≡ R.faults source.old }
@@ -205,8 +217,8 @@ fn nothing(alloc: Global, end: End) -> Played
     }
 }
 
-/// Runs the script that the bytes spell, with a journal of at most `limit` entries, or writes its bad line.
-/// `play` calls it with its own limit, and with the bytes that it read.
+/// Runs the script that the bytes spell, with a journal of at most `limit` entries, or writes its bad line. The
+/// port is for what it is in `play`, which calls this with its own limit and with the bytes that it read.
 #[tactic(auto, using(crate::proofs::PlayLemmas::runs_bad_line))]
 pub fn play_bytes<W: Sink, P: Port>(
     alloc: Global,
@@ -218,7 +230,8 @@ pub fn play_bytes<W: Sink, P: Port>(
 ) -> Played
     requires { length bytes.items ≤ script_bytes }
     ensures runs { RunsSo result.end P.Blob.tells limit wanted bytes.items result.history.entries
-        (W.taken sink.old) (W.taken sink.new) (P.faults port.old) (P.faults port.new) }
+        (W.taken sink.old) (W.taken sink.new) (counted (P.faults port.old) (P.reads port.old))
+        (counted (P.faults port.new) (P.reads port.new)) }
     ensures sink_failed { result.end ≡ End.SinkFailed → Rose (W.faults sink.old) (W.faults sink.new) }
     ensures sink_calm { (result.end ≡ End.SinkFailed → ⊥) → W.faults sink.new ≡ W.faults sink.old }
     ensures sink_later { W.faults sink.old ≤ W.faults sink.new }
@@ -283,7 +296,8 @@ fn play_script<W: Sink, P: Port>(
     requires rise { Rise 0 (request_lines (statements script.now)) }
     requires named { AllByRecursion (λ line. line.name < length script.now.names) script.now.lines }
     ensures ends { ScriptEnds result.end P.Blob.tells limit wanted script.now result.history.entries
-        (W.taken sink.old) (W.taken sink.new) (P.faults port.old) (P.faults port.new) }
+        (W.taken sink.old) (W.taken sink.new) (counted (P.faults port.old) (P.reads port.old))
+        (counted (P.faults port.new) (P.reads port.new)) }
     ensures sink_failed { result.end ≡ End.SinkFailed → Rose (W.faults sink.old) (W.faults sink.new) }
     ensures sink_calm { (result.end ≡ End.SinkFailed → ⊥) → W.faults sink.new ≡ W.faults sink.old }
     ensures sink_later { W.faults sink.old ≤ W.faults sink.new }

@@ -3,6 +3,7 @@ ghost use Rattle.std.specs.Prelude.{◌≡◌, ◌<◌, ◌≤◌, ℕ, length};
 ghost use Rattle.std.specs.List.{AllByRecursion};
 ghost use Rattle.pj_io.specs.Faults.{Rose};
 ghost use Rattle.pj_legal.specs.Statements.{statement_of, body_of as body_of_act};
+ghost use Rattle.pj_server.specs.PortFaults.{counted};
 ghost use Rattle.pj_server.specs.RunLines.{Writes, RunsLine, RunsLines};
 
 use crate::ending::End;
@@ -48,7 +49,8 @@ fn run_line<W: Sink, P: Port>(
 ) -> End
     requires { line.now.name < length names.now }
     ensures run { RunsLine P.Blob.tells result server.old server.new names.now (statement_of line.now)
-        (W.taken sink.old) (W.taken sink.new) (P.faults port.old) (P.faults port.new) }
+        (W.taken sink.old) (W.taken sink.new) (counted (P.faults port.old) (P.reads port.old))
+        (counted (P.faults port.new) (P.reads port.new)) }
     ensures later { W.faults sink.old ≤ W.faults sink.new }
     ensures failed { result ≡ End.SinkFailed → Rose (W.faults sink.old) (W.faults sink.new) }
     ensures calm { (result ≡ End.SinkFailed → ⊥) → W.faults sink.new ≡ W.faults sink.old }
@@ -76,7 +78,8 @@ pub(crate) fn run_lines<W: Sink, P: Port>(
     requires { AllByRecursion (λ line. line.name < length names.now) lines.now }
     ensures run { (count : ℕ)
         × RunsLines P.Blob.tells result count server.old server.new names.now lines.now (W.taken sink.old)
-        (W.taken sink.new) (P.faults port.old) (P.faults port.new)
+        (W.taken sink.new) (counted (P.faults port.old) (P.reads port.old))
+        (counted (P.faults port.new) (P.reads port.new))
         × (result ≡ End.Finished → count ≡ length lines.now) }
     ensures later { W.faults sink.old ≤ W.faults sink.new }
     ensures failed { result ≡ End.SinkFailed → Rose (W.faults sink.old) (W.faults sink.new) }

@@ -64,7 +64,7 @@ impl<P: Port> Server<P> {
       ChangesNothing,
       IsReadFault,
     };
-    ghost use Rattle.pj_server.specs.PortFaults.{IsBlamed};
+    ghost use Rattle.pj_server.specs.PortFaults.{IsBlamed, counted};
 
     /// No tables, and an empty journal of at most `limit` entries.
     pub(crate) fn new(alloc: Global, limit: u32) -> Server<P>
@@ -105,7 +105,8 @@ impl<P: Port> Server<P> {
     /// Runs the statement of a session's line, from its first move to its reply.
     pub(crate) fn statement(&mut self, alloc: Global, port: &mut P, by: By, body: &[u8]) -> Reply
         ensures serves { Serves P.Blob.tells self.old self.new (whole by.line by.session body.now) result }
-        ensures blamed { IsBlamed result (P.faults port.old) (P.faults port.new) }
+        ensures blamed { IsBlamed result (counted (P.faults port.old) (P.reads port.old))
+            (counted (P.faults port.new) (P.reads port.new)) }
     {
         match self.reserve() {
             Ok(()) => self.first_move(alloc, port, by, body),
@@ -128,7 +129,8 @@ impl<P: Port> Server<P> {
         requires room { 1 ≤ self.old.spare }
         requires below { length self.old.entries < self.old.limit }
         ensures serves { Serves P.Blob.tells self.old self.new (whole by.line by.session body.now) result }
-        ensures blamed { IsBlamed result (P.faults port.old) (P.faults port.new) }
+        ensures blamed { IsBlamed result (counted (P.faults port.old) (P.reads port.old))
+            (counted (P.faults port.new) (P.reads port.new)) }
     {
         bound_tables_fit();
         history_refuses_no_body();
@@ -160,7 +162,8 @@ impl<P: Port> Server<P> {
         requires below { length self.old.entries < self.old.limit }
         requires fits { BoundFits (catalog self.old.entries) bound }
         ensures does { Does P.Blob.tells self.old self.new (request_of by) bound result }
-        ensures blamed { IsBlamed result (P.faults port.old) (P.faults port.new) }
+        ensures blamed { IsBlamed result (counted (P.faults port.old) (P.reads port.old))
+            (counted (P.faults port.new) (P.reads port.new)) }
     {
         match bound {
             Bound::Create(table) => match self.create(alloc, by, table) {
@@ -216,7 +219,8 @@ impl<P: Port> Server<P> {
         requires below { length self.old.entries < self.old.limit }
         requires fits { BoundFits (catalog self.old.entries) (Bound.Insert table rows) }
         ensures does { Does P.Blob.tells self.old self.new (request_of by) (Bound.Insert table rows) result }
-        ensures blamed { IsBlamed result (P.faults port.old) (P.faults port.new) }
+        ensures blamed { IsBlamed result (counted (P.faults port.old) (P.reads port.old))
+            (counted (P.faults port.new) (P.reads port.new)) }
     {
         self.note(by, What::Begun { table });
         match self.reserve() {
@@ -251,6 +255,7 @@ impl<P: Port> Server<P> {
         ensures later { P.faults port.old ≤ P.faults port.new }
         ensures failed { IsErrOf result build_faults.StoreFault → Rose (P.faults port.old) (P.faults port.new) }
         ensures calm { (IsErrOf result build_faults.StoreFault → ⊥) → P.faults port.new ≡ P.faults port.old }
+        ensures unread { P.reads port.new ≡ P.reads port.old }
     {
         let number = table as usize;
         let draft = build(alloc, port, &self.tables.tables()[number], &rows)?;
@@ -273,7 +278,8 @@ impl<P: Port> Server<P> {
         requires below { length self.old.entries < self.old.limit }
         requires fits { BoundFits (catalog self.old.entries) (Bound.Select table query.now) }
         ensures does { Does P.Blob.tells self.old self.new (request_of by) (Bound.Select table query.now) result }
-        ensures blamed { IsBlamed result (P.faults port.old) (P.faults port.new) }
+        ensures blamed { IsBlamed result (counted (P.faults port.old) (P.reads port.old))
+            (counted (P.faults port.new) (P.reads port.new)) }
     {
         parts_hold_the_rows();
         self.note(by, What::Looked { table });

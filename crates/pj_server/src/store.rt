@@ -9,7 +9,7 @@ use pj_value::{List, NoMemory};
 use std::alloc::Global;
 use std::sync::Arc;
 
-/// The parts of a table, by their blocks, and the number that the table draws next.
+/// The parts of a table, in the order in which they became live, and the number that the table draws next.
 #[derive(Debug, Drop)]
 pub(crate) struct Store<B> {
     pub(crate) parts: Vec<Part<B>>,

@@ -1,6 +1,7 @@
 use Rattle.std.proofs.Common.{◌+◌, ◌∙◌, arith}
 use Rattle.pj_server.specs.declared.ending.End.TheVariants.{Finished}
 use Rattle.pj_server.proofs.PlayLemmas.{RunsLines-more}
+use Rattle.pj_server.specs.PortFaults.{counted}
 use Rattle.pj_server.proofs.runs.run_lines.Goals as goal
 
 pub returns-in_default : goal.returns-in_default
@@ -10,7 +11,7 @@ returns-in_default g c =
     c.lines.line-index c.args.server.now c.lines.server c.run_line.new.server c.args.names.now
     c.args.lines.now c.line-item.result
     (g.W.Sink.taken c.args.sink.now) (g.W.Sink.taken c.lines.sink) (g.W.Sink.taken c.run_line.new.sink)
-    (g.P.Port.faults c.args.port.now) (g.P.Port.faults c.lines.port) (g.P.Port.faults c.run_line.new.port)
+    (counted (g.P.Port.faults c.args.port.now) (g.P.Port.reads c.args.port.now)) (counted (g.P.Port.faults c.lines.port) (g.P.Port.reads c.lines.port)) (counted (g.P.Port.faults c.run_line.new.port) (g.P.Port.reads c.run_line.new.port))
     c.lines-test.true c.line-item.is c.lines.invariant.0
     c.run_line.ensures.run in
     record {
@@ -26,7 +27,7 @@ lines-preserved g c = (
       c.lines.line-index c.args.server.now c.lines.server c.run_line.new.server c.args.names.now
       c.args.lines.now c.line-item.result
       (g.W.Sink.taken c.args.sink.now) (g.W.Sink.taken c.lines.sink) (g.W.Sink.taken c.run_line.new.sink)
-      (g.P.Port.faults c.args.port.now) (g.P.Port.faults c.lines.port) (g.P.Port.faults c.run_line.new.port)
+      (counted (g.P.Port.faults c.args.port.now) (g.P.Port.reads c.args.port.now)) (counted (g.P.Port.faults c.lines.port) (g.P.Port.reads c.lines.port)) (counted (g.P.Port.faults c.run_line.new.port) (g.P.Port.reads c.run_line.new.port))
       c.lines-test.true c.line-item.is c.lines.invariant.0
       c.in-Finished.ensures.run,
   c.in-Finished.ensures.calm (λ e. cc) ∙ c.lines.invariant.1,

@@ -34,7 +34,7 @@ index-store-requires g c =
 
 pub inserted_part-requires : goal.inserted_part-requires
 inserted_part-requires g c =
-    let fresh = c.in_ok-draft.ensures.agrees (inserted 0 0 c.args.rows.rows) refl in (fresh.own, fresh.base)
+    let fresh = c.in_ok-draft.ensures.agrees (inserted 0 0 c.args.rows.rows) refl refl in (fresh.own, fresh.base)
 
 pub append-requires-clause-there : goal.append-requires-clause-there
 append-requires-clause-there g c =
