@@ -194,21 +194,23 @@ fn is_built_of(expr: &Expr, keys: &[Expr]) -> bool
 fn is_among(expr: &Expr, keys: &[Expr]) -> bool
     ensures { IsTrue result ↔ Contains keys.now expr.now }
 {
-    keys.iter().any(|key| same(key, expr))
+    keys.iter().any(|key| is_same_expr(key, expr))
 }
 
-/// Whether two expressions are the same.
-fn same(a: &Expr, b: &Expr) -> bool
+/// Whether two expressions are the same, part by part, up to the first part that differs. It takes no memory.
+pub fn is_same_expr(a: &Expr, b: &Expr) -> bool
     ensures { IsTrue result ↔ (a.now ≡ b.now) }
 {
     match (a, b) {
         (Expr::Column(m), Expr::Column(n)) => *m == *n,
         (Expr::Num(m), Expr::Num(n)) => *m == *n,
         (Expr::Text(s), Expr::Text(t)) => s.as_slice() == t.as_slice(),
-        (Expr::Add(a, b), Expr::Add(c, d)) => same(a.get(), c.get()) && same(b.get(), d.get()),
-        (Expr::Mul(a, b), Expr::Mul(c, d)) => same(a.get(), c.get()) && same(b.get(), d.get()),
-        (Expr::IntDiv(a, m), Expr::IntDiv(b, n)) => same(a.get(), b.get()) && *m == *n,
-        (Expr::Mod(a, m), Expr::Mod(b, n)) => same(a.get(), b.get()) && *m == *n,
+        (Expr::Add(a, b), Expr::Add(c, d)) => is_same_expr(a.get(), c.get())
+            && is_same_expr(b.get(), d.get()),
+        (Expr::Mul(a, b), Expr::Mul(c, d)) => is_same_expr(a.get(), c.get())
+            && is_same_expr(b.get(), d.get()),
+        (Expr::IntDiv(a, m), Expr::IntDiv(b, n)) => is_same_expr(a.get(), b.get()) && *m == *n,
+        (Expr::Mod(a, m), Expr::Mod(b, n)) => is_same_expr(a.get(), b.get()) && *m == *n,
         _ => false,
     }
 }

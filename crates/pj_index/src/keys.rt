@@ -14,7 +14,7 @@ pub struct KeyRange {
 pub struct KeyMarks {
     /// The key of the first row of each granule, in their order.
     pub firsts: Rows,
-    /// The key of the last row. It is empty where there is no row.
+    /// The key of the last row. Who builds an index leaves it empty where there is no row.
     pub last: List<Value>,
 }
 

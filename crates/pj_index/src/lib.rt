@@ -2,5 +2,9 @@
 #![tactic(auto)]
 
 mod keys;
+mod laws;
+mod selection;
 
 pub use keys::{KeyMarks, KeyRange, Span};
+pub use laws::no_key_is_left_out;
+pub use selection::select;

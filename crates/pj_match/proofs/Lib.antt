@@ -1,0 +1,4 @@
+pub mod BoundLemmas
+pub mod ChosenLemmas
+pub mod RangeLemmas
+pub mod WithinLemmas
