@@ -7,6 +7,8 @@ mod building;
 #[cfg(test)]
 mod parts;
 #[cfg(test)]
+mod partsets;
+#[cfg(test)]
 mod ports;
 #[cfg(test)]
 mod reads;

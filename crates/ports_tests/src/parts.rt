@@ -1,25 +1,10 @@
-ghost use Rattle.std.specs.Prelude.{◌≡◌, IfOk};
-ghost use Rattle.pj_part.specs.Names.{name_text};
-ghost use Rattle.pj_expr.specs.Parts.{PartRecord};
-ghost use Rattle.pj_part.specs.Agreement.{Agrees};
-
-use pj_expr::Table;
 use pj_index::KeyMarks;
 use pj_part::*;
-use pj_port::{Kept, MemoryBlob};
+use pj_port::MemoryBlob;
 use pj_value::*;
 use std::alloc::Global;
 use std::sync::Arc;
 use std::test::*;
-
-/// The name of a part, which its record tells.
-fn name_of<B: Kept>(alloc: Global, _table: &Table, part: &Part<B>) -> Result<Text, NoMemory>
-    ghost told: { PartRecord }
-    requires { Agrees B.told B.size _table.now part.now told }
-    ensures { IfOk result (λ name. name ≡ name_text told.min told.max told.level told.field) }
-{
-    part_name(alloc, part)
-}
 
 /// Sorted rows of no columns, without a row.
 fn no_rows(alloc: Global) -> Result<Sorted<MemoryBlob>, NoMemory> {
@@ -45,7 +30,11 @@ fn piece(alloc: Global, id: PieceId) -> Result<Arc<Piece<MemoryBlob>>, NoMemory>
 }
 
 /// A part without a row, with copies of these projections.
-fn part(alloc: Global, numbers: [u64; 4], ids: &[u64]) -> Result<Part<MemoryBlob>, NoMemory> {
+pub(crate) fn part(
+    alloc: Global,
+    numbers: [u64; 4],
+    ids: &[u64],
+) -> Result<Part<MemoryBlob>, NoMemory> {
     let base = piece(alloc, PieceId::Base)?;
     let mut sides = Vec::new(alloc);
     'sides: for id in ids {

@@ -1,0 +1,3 @@
+pub mod Sets
+pub mod Layout
+pub mod PinLayout
