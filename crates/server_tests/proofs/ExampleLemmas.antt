@@ -119,7 +119,7 @@ done_replies told place request (bounds.Create table) course form none = none-so
 done_replies told place request (bounds.Insert table rows) course form none =
     none-some Done (sym none ∙ form.3)
 done_replies told place request (bounds.Select table query) course form none =
-    none-some (replies.Rows form.0) (sym none ∙ form.3)
+    none-some (replies.Rows form.0) (sym none ∙ form.4)
 
 -- a statement without a reply has one move at most
 left_open : (told : Bool) (request : Request) (a b : Move)
@@ -171,7 +171,7 @@ begun_alone told request place (inr (inl done)) = by_bound done.place done.bound
         → ⊥
     by_bound at (bounds.Create table) form = let e = ap first_what form.0 in cc
     by_bound at (bounds.Insert table rows) form = let e = ap length form.2 in omega arith
-    by_bound at (bounds.Select table query) form = let e = ap first_what form.2 in cc
+    by_bound at (bounds.Select table query) form = let e = ap first_what form.3 in cc
 begun_alone told request place (inr (inr (inl starved))) = let e = starved.reply in cc
 begun_alone told request place (inr (inr (inr (inl out)))) = let e = out.reply in cc
 begun_alone told request place (inr (inr (inr (inr (inl faulted))))) = let e = faulted.reply in cc

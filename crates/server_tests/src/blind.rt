@@ -1,4 +1,6 @@
 //! A port whose blobs don't tell their bytes, and one of whose reads gives a byte that was not kept.
+ghost use Rattle.std.specs.Prelude.{◌≡◌, length};
+
 use pj_port::{Failed, KeepFault, Kept, MemoryBlob, Port, SurePort};
 use std::alloc::Global;
 use std::marker::Model;
@@ -18,7 +20,7 @@ impl Model for BlindBlob {
 }
 
 impl Kept for BlindBlob {
-    ghost use Rattle.std.specs.Prelude.{None, false, length, refl};
+    ghost use Rattle.std.specs.Prelude.{None, false, refl};
 
     ghost told = { λ _. None };
 
